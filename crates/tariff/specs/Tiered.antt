@@ -1,0 +1,46 @@
+-- What tiers mean: how far each reaches, what each takes of a year, and what that costs.
+use Prim.Native.Nat.{ℕ, _+_, _-_, _*_, min}
+use mathlib.Core.Bool.{cond}
+use mathlib.Core.List.{List, [], _∷_}
+use Rattle.sheet.specs.Rows.{kwh-of}
+use Rattle.sheet.specs.Sums.{sum-from, total}
+use Rattle.sheet.specs.declared.row.Row.{Row}
+use Rattle.tariff.specs.Faults.{units-of}
+use Rattle.tariff.specs.Rate.{Rate}
+use Rattle.tariff.specs.declared.band.Band.{Band}
+use Rattle.tariff.specs.declared.band.Share.{Share}
+
+-- the standard of a counted row: the multi-person one where it is so marked, else the ordinary one
+abbrev pub row-standard : Band → ℕ → Row → ℕ
+row-standard b month r = cond (r .counted) (cond (r .multi) (b .multi .kwh) (b .ordinary .kwh)) 0
+
+-- the kWh of the year up to which a tier reaches: its standards over the counted rows
+abbrev pub limit : Band → List Row → ℕ
+limit b rows = sum-from (row-standard b) 1 rows
+
+abbrev pub share : (price kwh : ℕ) → Share
+share p k = record { price = units-of p; kwh = kwh-of k; charge = units-of (k * p) }
+
+-- what each tier takes, the last of all too: the kWh up to its limit but for those up to the limit before it,
+-- and the last one the rest; `below` is the limit before the first of these tiers
+unfoldable pub split-from : (below : ℕ) → List Band → (last : ℕ) → List Row → List Share
+split-from below [] last rows = share last (total rows - min (total rows) below) ∷ []
+split-from below (b ∷ bs) last rows =
+    share (b .price .units) (min (total rows) (limit b rows) - min (total rows) below) ∷ split-from (limit b rows) bs last rows
+
+-- of a whole table: the tiers but the last, and the last price
+abbrev pub split : List Band → (last : ℕ) → List Row → List Share
+split bands last rows = split-from 0 bands last rows
+
+-- what all the shares cost
+unfoldable pub charges : List Share → ℕ
+charges [] = 0
+charges (s ∷ ss) = s .charge .units + charges ss
+
+abbrev pub first-price : List Band → (last : ℕ) → ℕ
+first-price [] last = last
+first-price (b ∷ bs) last = b .price .units
+
+-- cheapest: the first price; dearest: the last; charge: that of all shares
+abbrev pub tier-rate : List Band → (last : ℕ) → Rate
+tier-rate bands last = record { cheapest = first-price bands last; dearest = last; charge = λ rows. charges (split bands last rows) }
