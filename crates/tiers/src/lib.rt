@@ -1,0 +1,5 @@
+//! Tier tables, what each tier takes of a year, and the published tariffs.
+pub mod shares;
+pub mod split;
+pub mod table;
+pub mod tiers;
