@@ -48,7 +48,8 @@ step a b bs last h =
       dearer = leb-true (a .price .units) (b .price .units) (further .0);
       further = leb-true (a .ordinary .kwh) (b .ordinary .kwh) (further .1);
       wider = leb-true (a .multi .kwh) (b .multi .kwh) (wider .1);
-      rest = parts .1 }
+      rest = parts .1;
+    }
 
 -- no price is above the last, and that is at most 20,000
 pub last-dearest : (a : Band) (bs : List Band) (last : ℕ) → rises a bs last ≡ true → (a .price .units ≤ last) × (last ≤ 20000)
@@ -112,5 +113,16 @@ limit-is b rows s r is er =
     let em : s .multi ≡ multi-months rows = ap (λ (z : SixSums). z .multi) is in
     let among : m ≤ c = omega (arith, multi-among-counted rows) in
     let whole : c - m + m ≡ c = omega arith in
-    omega (arith, er, limit-by-months b rows, add-mul (c - m) m o, ap (λ k. k * o) whole,
-        mul-comm c o, mul-comm m o, mul-comm m w, ap (λ k. o * k) ec, ap (λ k. o * k) em, ap (λ k. w * k) em)
+    omega (
+      arith,
+      er,
+      limit-by-months b rows,
+      add-mul (c - m) m o,
+      ap (λ k. k * o) whole,
+      mul-comm c o,
+      mul-comm m o,
+      mul-comm m w,
+      ap (λ k. o * k) ec,
+      ap (λ k. o * k) em,
+      ap (λ k. w * k) em,
+    )

@@ -1,3 +1,4 @@
 pub mod Climbing
 pub mod Splitting
 pub mod Tabled
+pub mod Figured

@@ -64,16 +64,17 @@ split-more rows bands last below reach i shares s within room is priced inv =
     let left = drop (i + 1) bands in
     let here = climbs-at rows bands below i within (inv .climbs) in
     let more : split-from below (drop i bands) last rows ≡ share (b .price .units) (min (total rows) (limit b rows) - min (total rows) below) ∷ split-from (limit b rows) left last rows
-        = at-drop-more (λ l. split-from below l last rows) bands i no-band within in
+    = at-drop-more (λ l. split-from below l last rows) bands i no-band within in
     let named : s ∷ split-from reach left last rows ≡ split-from below (drop i bands) last rows
-        = ap (λ (x : Share). x ∷ split-from reach left last rows) priced
-          ∙ ap (λ (n : ℕ). share (b .price .units) (min (total rows) n - min (total rows) below) ∷ split-from n left last rows) is ∙ sym more in
+    = ap (λ (x : Share). x ∷ split-from reach left last rows) priced
+    ∙ ap (λ (n : ℕ). share (b .price .units) (min (total rows) n - min (total rows) below) ∷ split-from n left last rows) is ∙ sym more in
     record {
       sized = length-set shares i s ∙ inv .sized;
       so-far = ap (λ l. l ++ split-from reach left last rows) (take-more-set shares i s (omega (arith, inv .sized)))
-        ∙ append-assoc (take i shares) (s ∷ []) (split-from reach left last rows)
-        ∙ ap (λ l. take i shares ++ l) named ∙ inv .so-far;
-      climbs = subst (λ n. Climbs rows n left) (sym is) (here .4) }
+          ∙ append-assoc (take i shares) (s ∷ []) (split-from reach left last rows)
+          ∙ ap (λ l. take i shares ++ l) named ∙ inv .so-far;
+      climbs = subst (λ n. Climbs rows n left) (sym is) (here .4);
+    }
 
 -- the last tier
 pub split-last : (rows : List Row) (bands : List Band) (last below i : ℕ) (shares : List Share) (s : Share)
@@ -82,13 +83,12 @@ pub split-last : (rows : List Row) (bands : List Band) (last below i : ℕ) (sha
 unfolding split-from
 split-last rows bands last below i shares s end room priced inv =
     let tail : split-from below (drop i bands) last rows ≡ share last (total rows - min (total rows) below) ∷ []
-        = at-drop-all (λ l. split-from below l last rows) bands i (omega arith) in
+    = at-drop-all (λ l. split-from below l last rows) bands i (omega arith) in
     take-more-set shares i s (omega (arith, inv .sized))
     ∙ ap (λ (x : Share). take i shares ++ x ∷ []) priced
     ∙ ap (λ l. take i shares ++ l) (sym tail) ∙ inv .so-far
 
 -- ---- the sum of the shares
-
 
 pub charges-more : (ss : List Share) (i : ℕ) → i < length ss → charges (drop i ss) ≡ getD ss i (share 0 0) .charge .units + charges (drop (i + 1) ss)
 unfolding charges

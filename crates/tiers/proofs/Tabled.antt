@@ -30,8 +30,14 @@ least-from rows below q a (b ∷ bs) last h low =
     let left = all - reach in
     let parts : all - min all below ≤ here + left = omega arith in
     let next : q ≤ first-price bs last = omega (arith, first-cheapest b bs last (s .rest) .0) in
-    omega (arith, least-from rows (limit b rows) q b bs last (s .rest) next,
-        mul-le-mul-left here low, mul-comm q here, mul-add q here left, mul-le-mul-left q parts)
+    omega (
+      arith,
+      least-from rows (limit b rows) q b bs last (s .rest) next,
+      mul-le-mul-left here low,
+      mul-comm q here,
+      mul-add q here left,
+      mul-le-mul-left q parts,
+    )
 
 -- no charge is above the last price
 most-from : (rows : List Row) (below : ℕ) (a : Band) (bs : List Band) (last : ℕ) → rises a bs last ≡ true → Climbs rows below bs
@@ -45,8 +51,14 @@ most-from rows below a (b ∷ bs) last h c =
     let here = reach - min all below in
     let left = all - reach in
     let parts : here + left ≡ all - min all below = omega (arith, c .0) in
-    omega (arith, most-from rows (limit b rows) b bs last (s .rest) (c .4),
-        mul-le-mul-left here (last-dearest b bs last (s .rest) .0), mul-comm last here, mul-add last here left, ap (λ x. last * x) parts)
+    omega (
+      arith,
+      most-from rows (limit b rows) b bs last (s .rest) (c .4),
+      mul-le-mul-left here (last-dearest b bs last (s .rest) .0),
+      mul-comm last here,
+      mul-add last here left,
+      ap (λ x. last * x) parts,
+    )
 
 whole : (rows : List Row) → total rows - min (total rows) 0 ≡ total rows
 whole rows = omega arith
@@ -64,8 +76,9 @@ table-small rows bs last p h = omega (arith, table-most rows bs last h, mul-le-m
 
 pub table-lawful : (bs : List Band) (last : ℕ) → lawful bs last ≡ true → Lawful (tier-rate bs last)
 table-lawful bs last h = record {
-    ordered = table-prices bs last h .0;
-    bounded = omega (arith, table-prices bs last h .1);
-    nothing = λ s p none. omega (arith, table-most s bs last h, ap (λ x. last * x) none);
-    least = λ s p. table-least s bs last h;
-    most = λ s p low. table-most s bs last h }
+  ordered = table-prices bs last h .0;
+  bounded = omega (arith, table-prices bs last h .1);
+  nothing = λ s p none. omega (arith, table-most s bs last h, ap (λ x. last * x) none);
+  least = λ s p. table-least s bs last h;
+  most = λ s p low. table-most s bs last h;
+}

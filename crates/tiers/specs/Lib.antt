@@ -1,3 +1,5 @@
 pub mod Lawful
 pub mod Tables
 pub mod Splits
+pub mod Published
+pub mod Figures

@@ -14,4 +14,5 @@ returns c =
       bands = ap Ok (c .copied .ensures .same) ∙ ap (λ b. lawful-or b bands) lawful;
       last = ap (λ b. lawful-or b (c .args .last)) lawful;
       plain = tiers _ (c .args .last .units);
-      alike = tiers-alike _ (c .args .last .units) }
+      alike = tiers-alike _ (c .args .last .units);
+    }

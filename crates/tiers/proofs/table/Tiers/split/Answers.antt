@@ -37,7 +37,8 @@ limit-reach-requires c κs =
       months = omega (arith, counted-small rows (proper-of (c .args .sheet .now)));
       among = omega (arith, multi-among-counted rows);
       ordinary = here .1;
-      multi = here .2 }
+      multi = here .2;
+    }
 
 pub sub-min : need.sub-min
 sub-min c =
@@ -69,7 +70,8 @@ share-requires-2 c κs =
     let all = ap (λ (s : SixSums). s .total .kwh) (c .six-sums-sums .ensures) in
     record {
       price = table-prices (bands-of self) (self .last .units) (self .kept) .1;
-      kwh = omega (arith, total-small rows (proper-of (c .args .sheet .now))) }
+      kwh = omega (arith, total-small rows (proper-of (c .args .sheet .now)));
+    }
 
 pub returns : need.returns
 returns c =

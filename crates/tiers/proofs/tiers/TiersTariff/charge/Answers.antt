@@ -11,7 +11,6 @@ use Rattle.tiers.proofs.Splitting.{charges-more, charges-end}
 use Rattle.tiers.proofs.Tabled.{table-small}
 use Rattle.tiers.proofs.tiers.TiersTariff.charge.Needs as need
 
-
 pub add-sum : need.add-sum
 add-sum c =
     let shares = c .shares-shares .result .now in
