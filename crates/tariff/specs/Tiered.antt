@@ -32,6 +32,11 @@ split-from below (b ∷ bs) last rows =
 abbrev pub split : List Band → (last : ℕ) → List Row → List Share
 split bands last rows = split-from 0 bands last rows
 
+-- the kWh of all the shares
+unfoldable pub kwhs : List Share → ℕ
+kwhs [] = 0
+kwhs (s ∷ ss) = s .kwh .kwh + kwhs ss
+
 -- what all the shares cost
 unfoldable pub charges : List Share → ℕ
 charges [] = 0

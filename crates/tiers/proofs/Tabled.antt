@@ -10,10 +10,17 @@ use Rattle.sheet.specs.Sums.{total}
 use Rattle.sheet.specs.declared.row.Row.{Row}
 use Rattle.sheet.proofs.Adding.{total-small}
 use Rattle.tariff.specs.Rate.{Lawful}
-use Rattle.tariff.specs.Tiered.{limit, split-from, split, charges, first-price, tier-rate}
+use Rattle.tariff.specs.Tiered.{limit, split-from, split, kwhs, charges, first-price, tier-rate}
 use Rattle.tariff.specs.declared.band.Band.{Band}
 use Rattle.tiers.specs.Lawful.{rises, lowest, lawful}
 use Rattle.tiers.proofs.Climbing.{Climbs, step, last-dearest, first-cheapest, table-rises, table-climbs, table-prices}
+
+-- the tiers take all kWh past the limit before them
+whole-from : (rows : List Row) (below : ℕ) (bs : List Band) (last : ℕ) → Climbs rows below bs
+    → kwhs (split-from below bs last rows) + min (total rows) below ≡ total rows
+unfolding split-from kwhs
+whole-from rows below [] last c = omega arith
+whole-from rows below (b ∷ bs) last c = omega (arith, whole-from rows (limit b rows) bs last (c .4), c .0)
 
 -- no charge is below a price that the first of the tiers is not below
 least-from : (rows : List Row) (below q : ℕ) (a : Band) (bs : List Band) (last : ℕ) → rises a bs last ≡ true → q ≤ first-price bs last
@@ -59,6 +66,9 @@ most-from rows below a (b ∷ bs) last h c =
       mul-add last here left,
       ap (λ x. last * x) parts,
     )
+
+pub table-whole : (rows : List Row) (bs : List Band) (last : ℕ) → lawful bs last ≡ true → kwhs (split bs last rows) ≡ total rows
+table-whole rows bs last h = omega (arith, whole-from rows 0 bs last (table-climbs rows bs last h))
 
 whole : (rows : List Row) → total rows - min (total rows) 0 ≡ total rows
 whole rows = omega arith

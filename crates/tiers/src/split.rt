@@ -1,6 +1,7 @@
 //! What each tier takes of a year.
 ghost use mathlib.Core.Path.{_≡_};
 ghost use Prim.Native.Nat.{_+_, _-_, _*_, _≤_};
+ghost use Rattle.sheet.specs.Sums.{total};
 ghost use Rattle.tariff.specs.Tiered as means;
 ghost use Rattle.tiers.specs.Tables.{bands-of};
 ghost use Rattle.tiers.specs.Splits.{shares-of};
@@ -39,9 +40,10 @@ fn share(price: Units, kwh: u64) -> Share
 }
 
 impl Tiers {
-    /// What each tier takes of the sheet's kWh, and what that costs.
+    /// What each tier takes of the sheet's kWh, and what that costs; all together they take all of it.
     pub fn split(&self, sheet: &Sheet) -> Split
-        ensures { λ r. ⌜ shares-of r ≡ means.split (bands-of (now (self .entry))) (now (self .entry) .last .units) (now (sheet .entry) .rows) ⌝ }
+        ensures shares { λ r. ⌜ shares-of r ≡ means.split (bands-of (now (self .entry))) (now (self .entry) .last .units) (now (sheet .entry) .rows) ⌝ }
+        ensures whole { λ r. ⌜ means.kwhs (shares-of r) ≡ total (now (sheet .entry) .rows) ⌝ }
     {
         let sums = sheet.six_sums();
         let total = sums.total.kwh;

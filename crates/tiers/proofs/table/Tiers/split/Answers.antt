@@ -8,12 +8,13 @@ use Rattle.std.proofs.shelf.Lists.{length-take-le}
 use Rattle.sheet.specs.Sums.{total, counted-months, multi-months}
 use Rattle.sheet.specs.declared.sums.SixSums.{SixSums}
 use Rattle.sheet.proofs.Adding.{proper-of, total-small, counted-small, multi-among-counted}
-use Rattle.tariff.specs.Tiered.{limit, share, split}
+use Rattle.tariff.specs.Tiered.{share, split, kwhs}
 use Rattle.tariff.specs.declared.band.Band.{Band}
 use Rattle.tiers.specs.Lawful.{lawful}
 use Rattle.tiers.specs.Tables.{bands-of}
 use Rattle.tiers.proofs.Climbing.{Climbs, table-climbs, table-prices, limit-is}
 use Rattle.tiers.proofs.Splitting.{no-band, Splits, none-split, climbs-at, split-more, split-last}
+use Rattle.tiers.proofs.Tabled.{table-whole}
 use Rattle.tiers.proofs.table.Tiers.split.Needs as need
 
 -- the tiers in use are few
@@ -82,7 +83,8 @@ returns c =
     let all = ap (λ (s : SixSums). s .total .kwh) (c .six-sums-sums .ensures) in
     let takes : c .six-sums-sums .result .total .kwh - c .min-2 .result ≡ total rows - min (total rows) (c .loop-i .below) = omega arith in
     let inv = subst (λ n. Splits rows bands (self .last .units) (c .loop-i .below) n (c .loop-i .shares)) end (c .loop-i .inv) in
-    split-last rows bands (self .last .units) (c .loop-i .below) (length bands) (c .loop-i .shares) (c .share-2 .result)
+    let shares = split-last rows bands (self .last .units) (c .loop-i .below) (length bands) (c .loop-i .shares) (c .share-2 .result)
     refl (omega (arith, few (self .count) (self .bands) bands (self .five) (self .few) (c .bands-bands .ensures)))
     (c .share-2 .ensures ∙ ap (share (self .last .units)) takes) inv
-    ∙ ap (λ l. split l (self .last .units) rows) (c .bands-bands .ensures)
+    ∙ ap (λ l. split l (self .last .units) rows) (c .bands-bands .ensures) in
+    record { shares = shares; whole = ap kwhs shares ∙ table-whole rows (bands-of self) (self .last .units) (self .kept) }

@@ -15,7 +15,7 @@ pub add-sum : need.add-sum
 add-sum c =
     let shares = c .shares-shares .result .now in
     let small = table-small (c .args .sheet .now .rows) (bands-of (c .args .self .now)) (c .args .self .now .last .units) (proper-of (c .args .sheet .now)) (c .args .self .now .kept) in
-    let is = ap charges (c .shares-shares .ensures ∙ c .split-split .ensures) in
+    let is = ap charges (c .shares-shares .ensures ∙ c .split-split .ensures .shares) in
     omega (arith, charges-more shares (c .loop-share .share-index) (omega arith), c .loop-share .inv)
 
 pub loop-share-again : need.loop-share-again
@@ -23,7 +23,7 @@ loop-share-again c = omega (arith, charges-more (c .shares-shares .result .now) 
 
 pub returns : need.returns
 returns c =
-    let is = ap charges (c .shares-shares .ensures ∙ c .split-split .ensures) in
+    let is = ap charges (c .shares-shares .ensures ∙ c .split-split .ensures .shares) in
     let low = table-prices (bands-of (c .args .self .now)) (c .args .self .now .last .units) (c .args .self .now .kept) in
     answers _ (rate-of (c .args .self .now)) (c .args .sheet .now .rows) (omega (arith, low .1))
     (omega (arith, charges-end (c .shares-shares .result .now) (c .loop-share .share-index) (omega arith), c .loop-share .inv))
