@@ -15,6 +15,9 @@ pub struct Row {
     pub bought: Kwh,
 }
 
+/// The rows of a year, January first.
+pub type YearRows = [Row; 12];
+
 /// What is booked into a month's row.
 #[derive(Clone, Copy)]
 pub enum Booking {

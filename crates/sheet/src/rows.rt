@@ -7,6 +7,7 @@ use crate::row::Booking;
 use crate::row::Marking;
 use crate::row::Row;
 use crate::row::YearMarks;
+use crate::row::YearRows;
 
 impl Booking {
     // In 128 bits: a caller's kWh may be anything.
@@ -118,7 +119,7 @@ pub fn all_fit(rows: &[Row]) -> bool
 
 /// The rows with the kWh booked into one month's row; none where there is no such month, or its row would hold
 /// more than 999,999 kWh.
-pub fn booked_in(rows: &[Row; 12], month: u64, booking: Booking) -> Option<[Row; 12]>
+pub fn booked_in(rows: &YearRows, month: u64, booking: Booking) -> Option<YearRows>
     ensures { λ r. ⌜ r ≡ means.booked-in month booking (now (rows .entry)) ⌝ }
 {
     if month < 1 || month > 12 {
@@ -132,7 +133,7 @@ pub fn booked_in(rows: &[Row; 12], month: u64, booking: Booking) -> Option<[Row;
 }
 
 /// The rows with the marks changed of those after a month.
-pub fn marked_after(old: &[Row; 12], month: u64, marking: Marking) -> [Row; 12]
+pub fn marked_after(old: &YearRows, month: u64, marking: Marking) -> YearRows
     ensures { λ r. ⌜ r ≡ means.after-month month (means.marked marking) (now (old .entry)) ⌝ }
 {
     let mut next = *old;
@@ -145,7 +146,7 @@ pub fn marked_after(old: &[Row; 12], month: u64, marking: Marking) -> [Row; 12]
 }
 
 /// Twelve rows with no kWh and the given marks.
-pub fn blank_year(marks: YearMarks) -> [Row; 12]
+pub fn blank_year(marks: YearMarks) -> YearRows
     ensures { λ r. ⌜ r ≡ means.blank-year marks ⌝ }
 {
     let mut rows = [marks.row(0); 12];

@@ -1,0 +1,5 @@
+pub mod Texts
+pub mod Shandong
+pub mod Years
+pub mod Lines
+pub mod Words
