@@ -41,7 +41,7 @@ nth-second (x ∷ xs) ys (suc k) j h = nth-second xs ys k j (omega arith)
 
 -- what a read past the end would give
 abbrev pub no-share : Share
-no-share = share 0 0
+no-share = share 0 None 0
 
 -- ---- the lines of the tiers, and the sum
 

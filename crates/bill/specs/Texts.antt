@@ -5,6 +5,9 @@ use mathlib.Core.List.{List, [], _++_}
 use lib.Chars.{codes}
 use lib.IntN.{ℤ, pos, negsuc, natAbs}
 use Rattle.std.specs.Written.{decimal}
+use Rattle.std.specs.declared.option.Option.{Option}
+use Rattle.std.specs.declared.option.Option.the-variants.{Some, None}
+use Rattle.sheet.specs.declared.quantity.Kwh.{Kwh as Quantity}
 use Rattle.bill.specs.declared.household.ArgumentFault.{ArgumentFault}
 use Rattle.bill.specs.declared.household.ArgumentFault.the-variants.{Count, Kwh, Month}
 use Rattle.bill.specs.declared.lines.Line.{Line}
@@ -22,10 +25,15 @@ sign (negsuc n) = codes "-"
 abbrev pub cash : ℤ → List ℕ
 cash z = sign z ++ (decimal (natAbs z / 100) ++ (codes "." ++ (decimal (natAbs z / 10 % 10) ++ decimal (natAbs z % 10))))
 
+-- how far a tier reaches
+abbrev pub reach : Option Quantity → List ℕ
+reach (Some l) = codes " to " ++ (decimal (l .kwh) ++ codes " kWh: ")
+reach None = codes " above that: "
+
 abbrev pub line : Line → List ℕ
 line (MonthLine m k multi) = codes "month " ++ (decimal m ++ (codes ": " ++ (decimal (k .kwh) ++ cond multi (codes " kWh, multi-person") (codes " kWh"))))
 line (Total k) = codes "year: " ++ (decimal (k .kwh) ++ codes " kWh")
-line (Tier t s) = codes "tier " ++ (decimal t ++ (codes ": " ++ (decimal (s .kwh .kwh) ++ (codes " kWh at " ++ (yuan (s .price .units) ++ (codes " yuan = " ++ (yuan (s .charge .units) ++ codes " yuan")))))))
+line (Tier t s) = codes "tier " ++ (decimal t ++ (reach (s .limit) ++ (decimal (s .kwh .kwh) ++ (codes " kWh at " ++ (yuan (s .price .units) ++ (codes " yuan = " ++ (yuan (s .charge .units) ++ codes " yuan")))))))
 line (Sum c f) = codes "sum: " ++ (yuan (c .units) ++ (codes " yuan, to pay " ++ (cash (f .fen) ++ codes " yuan")))
 
 abbrev pub complaint : ArgumentFault → List ℕ

@@ -4,6 +4,7 @@ ghost use Rattle.bill.specs.Texts as texts;
 use crate::household::ArgumentFault;
 use crate::lines::Line;
 use sheet::quantity::Fen;
+use sheet::quantity::Kwh;
 use sheet::quantity::Units;
 use std::fmt;
 
@@ -43,6 +44,24 @@ pub impl fmt::Display for Cash as CashDisplay {
     }
 }
 
+/// How far a tier reaches, if not to the end.
+#[derive(Clone, Copy)]
+pub struct Reach(pub Option<Kwh>);
+
+pub impl fmt::Display for Reach as ReachDisplay {
+    ghost shown = { λ r. Some (texts.reach (r .0)) };
+
+    fn fmt<W: fmt::Write>(&self, f: &mut fmt::Formatter<W>) -> fmt::Result {
+        match self.0 {
+            Some(limit) => {
+                let kwh = limit.kwh;
+                write!(f, " to {kwh} kWh: ")
+            }
+            None => write!(f, " above that: "),
+        }
+    }
+}
+
 pub impl fmt::Display for Line as LineDisplay {
     ghost shown = { λ l. Some (texts.line l) };
 
@@ -61,10 +80,14 @@ pub impl fmt::Display for Line as LineDisplay {
                 write!(f, "year: {kwh} kWh")
             }
             Line::Tier { tier, share } => {
+                let reach = Reach(share.limit);
                 let kwh = share.kwh.kwh;
                 let price = Yuan(share.price);
                 let charge = Yuan(share.charge);
-                write!(f, "tier {tier}: {kwh} kWh at {price} yuan = {charge} yuan")
+                write!(
+                    f,
+                    "tier {tier}{reach}{kwh} kWh at {price} yuan = {charge} yuan"
+                )
             }
             Line::Sum { charge, fen } => {
                 let charge = Yuan(charge);

@@ -4,7 +4,9 @@ use native.Mathlib.Nat.{mul-add, mul-one, mul-zero}
 use native.Mathlib.Omega.{arith}
 use mathlib.Core.Bool.{Bool, true, false, cond, _&&_}
 use mathlib.Core.List.{List, [], _∷_}
-use mathlib.Core.Path.{_≡_, refl, ap, ap₂}
+use mathlib.Core.Path.{_≡_, refl, ap, ap₂, _∙_}
+use Rattle.std.specs.declared.option.Option.the-variants.{Some, None}
+use Rattle.sheet.specs.Rows.{kwh-of}
 use Rattle.sheet.specs.Sums.{sum-from, total, row-counted, row-multi, counted-months, multi-months, six-sums}
 use Rattle.sheet.specs.declared.row.Row.{Row}
 use Rattle.sheet.specs.declared.sums.SixSums.{SixSums}
@@ -52,13 +54,13 @@ same-total x y e = ap (λ (z : SixSums). z .total .kwh) e
 
 same-split : (bs : List Band) (last a b : ℕ) (x y : List Row) → six-sums x ≡ six-sums y → a ≡ b → split-from a bs last x ≡ split-from b bs last y
 unfolding split-from
-same-split [] last a b x y e h = ap₂ (λ (n : ℕ) (k : ℕ). share last (n - min n k) ∷ []) (same-total x y e) h
+same-split [] last a b x y e h = ap₂ (λ (n : ℕ) (k : ℕ). share last None (n - min n k) ∷ []) (same-total x y e) h
 same-split (t ∷ ts) last a b x y e h =
     let n = same-total x y e in
     let l : limit t x ≡ limit t y = same-limit t x y e in
     let u : min (total x) (limit t x) ≡ min (total y) (limit t y) = ap₂ min n l in
     let v : min (total x) a ≡ min (total y) b = ap₂ min n h in
-    ap₂ (λ (s : Share) (ss : List Share). s ∷ ss) (ap₂ (λ (p : ℕ) (q : ℕ). share (t .price .units) (p - q)) u v) (same-split ts last (limit t x) (limit t y) x y e l)
+    ap₂ (λ (s : Share) (ss : List Share). s ∷ ss) (ap₂ (λ (m : ℕ) (p : ℕ). share (t .price .units) (Some (kwh-of m)) (p - min (total x) a)) l u ∙ ap (λ (q : ℕ). share (t .price .units) (Some (kwh-of (limit t y))) (min (total y) (limit t y) - q)) v) (same-split ts last (limit t x) (limit t y) x y e l)
 
 pub flat-alike : (price : ℕ) → Alike (flat-rate price)
 flat-alike price x y e = ap (λ (z : SixSums). price * z .total .kwh) e

@@ -2,8 +2,11 @@
 use Prim.Native.Nat.{ℕ, _+_, _-_, _*_, min}
 use mathlib.Core.Bool.{cond}
 use mathlib.Core.List.{List, [], _∷_}
+use Rattle.std.specs.declared.option.Option.{Option}
+use Rattle.std.specs.declared.option.Option.the-variants.{Some, None}
 use Rattle.sheet.specs.Rows.{kwh-of}
 use Rattle.sheet.specs.Sums.{sum-from, total}
+use Rattle.sheet.specs.declared.quantity.Kwh.{Kwh}
 use Rattle.sheet.specs.declared.row.Row.{Row}
 use Rattle.tariff.specs.Faults.{units-of}
 use Rattle.tariff.specs.Rate.{Rate}
@@ -18,15 +21,15 @@ row-standard b month r = cond (r .counted) (cond (r .multi) (b .multi .kwh) (b .
 abbrev pub limit : Band → List Row → ℕ
 limit b rows = sum-from (row-standard b) 1 rows
 
-abbrev pub share : (price kwh : ℕ) → Share
-share p k = record { price = units-of p; kwh = kwh-of k; charge = units-of (k * p) }
+abbrev pub share : (price : ℕ) → (limit : Option Kwh) → (kwh : ℕ) → Share
+share p l k = record { price = units-of p; limit = l; kwh = kwh-of k; charge = units-of (k * p) }
 
 -- what each tier takes, the last of all too: the kWh up to its limit but for those up to the limit before it,
 -- and the last one the rest; `below` is the limit before the first of these tiers
 unfoldable pub split-from : (below : ℕ) → List Band → (last : ℕ) → List Row → List Share
-split-from below [] last rows = share last (total rows - min (total rows) below) ∷ []
+split-from below [] last rows = share last None (total rows - min (total rows) below) ∷ []
 split-from below (b ∷ bs) last rows =
-    share (b .price .units) (min (total rows) (limit b rows) - min (total rows) below) ∷ split-from (limit b rows) bs last rows
+    share (b .price .units) (Some (kwh-of (limit b rows))) (min (total rows) (limit b rows) - min (total rows) below) ∷ split-from (limit b rows) bs last rows
 
 -- of a whole table: the tiers but the last, and the last price
 abbrev pub split : List Band → (last : ℕ) → List Row → List Share

@@ -11,10 +11,12 @@ pub struct Band {
     pub multi: Kwh,
 }
 
-/// What a tier takes of a year: its price, its kWh and what they cost.
+/// What a tier takes of a year: its price, the kWh of the year up to which it reaches (none for the last), the kWh
+/// that it takes, and what they cost.
 #[derive(Clone, Copy)]
 pub struct Share {
     pub price: Units,
+    pub limit: Option<Kwh>,
     pub kwh: Kwh,
     pub charge: Units,
 }

@@ -10,6 +10,7 @@ use Rattle.std.proofs.shelf.Lists.{drop-more, at-drop-more, at-drop-all, take-m
 use Rattle.std.proofs.shelf.Tests.{le-leb}
 use Rattle.sheet.specs.Sums.{total}
 use Rattle.sheet.specs.declared.row.Row.{Row}
+use Rattle.std.specs.declared.option.Option.the-variants.{Some, None}
 use Rattle.sheet.specs.Rows.{kwh-of}
 use Rattle.tariff.specs.Faults.{units-of}
 use Rattle.tariff.specs.Tiered.{limit, share, split-from, split, charges}
@@ -56,18 +57,18 @@ climbs-at rows bands below i within c = subst (λ l. Climbs rows below l) (drop-
 -- one tier more
 pub split-more : (rows : List Row) (bands : List Band) (last below reach i : ℕ) (shares : List Share) (s : Share)
     → i < length bands → i < 6 → reach ≡ limit (getD bands i no-band) rows
-    → s ≡ share (getD bands i no-band .price .units) (min (total rows) reach - min (total rows) below)
+    → s ≡ share (getD bands i no-band .price .units) (Some (kwh-of reach)) (min (total rows) reach - min (total rows) below)
     → Splits rows bands last below i shares → Splits rows bands last reach (i + 1) (set shares i s)
 unfolding split-from
 split-more rows bands last below reach i shares s within room is priced inv =
     let b = getD bands i no-band in
     let left = drop (i + 1) bands in
     let here = climbs-at rows bands below i within (inv .climbs) in
-    let more : split-from below (drop i bands) last rows ≡ share (b .price .units) (min (total rows) (limit b rows) - min (total rows) below) ∷ split-from (limit b rows) left last rows
+    let more : split-from below (drop i bands) last rows ≡ share (b .price .units) (Some (kwh-of (limit b rows))) (min (total rows) (limit b rows) - min (total rows) below) ∷ split-from (limit b rows) left last rows
     = at-drop-more (λ l. split-from below l last rows) bands i no-band within in
     let named : s ∷ split-from reach left last rows ≡ split-from below (drop i bands) last rows
     = ap (λ (x : Share). x ∷ split-from reach left last rows) priced
-    ∙ ap (λ (n : ℕ). share (b .price .units) (min (total rows) n - min (total rows) below) ∷ split-from n left last rows) is ∙ sym more in
+    ∙ ap (λ (n : ℕ). share (b .price .units) (Some (kwh-of n)) (min (total rows) n - min (total rows) below) ∷ split-from n left last rows) is ∙ sym more in
     record {
       sized = length-set shares i s ∙ inv .sized;
       so-far = ap (λ l. l ++ split-from reach left last rows) (take-more-set shares i s (omega (arith, inv .sized)))
@@ -78,11 +79,11 @@ split-more rows bands last below reach i shares s within room is priced inv =
 
 -- the last tier
 pub split-last : (rows : List Row) (bands : List Band) (last below i : ℕ) (shares : List Share) (s : Share)
-    → i ≡ length bands → i < 6 → s ≡ share last (total rows - min (total rows) below)
+    → i ≡ length bands → i < 6 → s ≡ share last None (total rows - min (total rows) below)
     → Splits rows bands last below i shares → take (i + 1) (set shares i s) ≡ split bands last rows
 unfolding split-from
 split-last rows bands last below i shares s end room priced inv =
-    let tail : split-from below (drop i bands) last rows ≡ share last (total rows - min (total rows) below) ∷ []
+    let tail : split-from below (drop i bands) last rows ≡ share last None (total rows - min (total rows) below) ∷ []
     = at-drop-all (λ l. split-from below l last rows) bands i (omega arith) in
     take-more-set shares i s (omega (arith, inv .sized))
     ∙ ap (λ (x : Share). take i shares ++ x ∷ []) priced
@@ -90,9 +91,9 @@ split-last rows bands last below i shares s end room priced inv =
 
 -- ---- the sum of the shares
 
-pub charges-more : (ss : List Share) (i : ℕ) → i < length ss → charges (drop i ss) ≡ getD ss i (share 0 0) .charge .units + charges (drop (i + 1) ss)
+pub charges-more : (ss : List Share) (i : ℕ) → i < length ss → charges (drop i ss) ≡ getD ss i (share 0 None 0) .charge .units + charges (drop (i + 1) ss)
 unfolding charges
-charges-more ss i h = at-drop-more charges ss i (share 0 0) h
+charges-more ss i h = at-drop-more charges ss i (share 0 None 0) h
 
 pub charges-end : (ss : List Share) (i : ℕ) → length ss ≤ i → charges (drop i ss) ≡ 0
 unfolding charges

@@ -25,13 +25,14 @@ fn limit(band: &Band, sums: &SixSums) -> u64
     (sums.counted - sums.multi) * band.ordinary.kwh + sums.multi * band.multi.kwh
 }
 
-fn share(price: Units, kwh: u64) -> Share
+fn share(price: Units, limit: Option<Kwh>, kwh: u64) -> Share
     requires price { ⌜ price .units ≤ 20000 ⌝ }
     requires kwh { ⌜ kwh ≤ 11999988 ⌝ }
-    ensures { λ r. ⌜ r ≡ means.share (price .units) kwh ⌝ }
+    ensures { λ r. ⌜ r ≡ means.share (price .units) limit kwh ⌝ }
 {
     Share {
         price,
+        limit,
         kwh: Kwh { kwh },
         charge: Units {
             units: kwh * price.units,
@@ -48,15 +49,16 @@ impl Tiers {
         let sums = sheet.six_sums();
         let total = sums.total.kwh;
         let bands = self.bands();
-        let mut shares = [share(Units { units: 0 }, 0); 6];
+        let mut shares = [share(Units { units: 0 }, None, 0); 6];
         let mut below = 0;
         for (i, band) in bands.iter().enumerate() {
             let reach = limit(band, &sums);
-            shares[i] = share(band.price, total.min(reach) - total.min(below));
+            let takes = total.min(reach) - total.min(below);
+            shares[i] = share(band.price, Some(Kwh { kwh: reach }), takes);
             below = reach;
         }
         let count = bands.len();
-        shares[count] = share(self.last, total - total.min(below));
+        shares[count] = share(self.last, None, total - total.min(below));
         Split {
             shares,
             count: count + 1,

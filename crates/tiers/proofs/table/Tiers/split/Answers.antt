@@ -5,6 +5,8 @@ use mathlib.Core.List.{List, _∷_}
 use mathlib.Core.Path.{_≡_, refl, ap, subst, _∙_}
 use lib.ListN.{length, getD, drop, take, length-set}
 use Rattle.std.proofs.shelf.Lists.{length-take-le}
+use Rattle.std.specs.declared.option.Option.the-variants.{Some, None}
+use Rattle.sheet.specs.Rows.{kwh-of}
 use Rattle.sheet.specs.Sums.{total, counted-months, multi-months}
 use Rattle.sheet.specs.declared.sums.SixSums.{SixSums}
 use Rattle.sheet.proofs.Adding.{proper-of, total-small, counted-small, multi-among-counted}
@@ -41,8 +43,8 @@ limit-reach-requires c κs =
       multi = here .2;
     }
 
-pub sub-min : need.sub-min
-sub-min c =
+pub sub-takes : need.sub-takes
+sub-takes c =
     let here = climbs-at (c .args .sheet .now .rows) (c .bands-bands .result .now) (c .loop-i .below) (c .loop-i .i) (c .loop-i-test .taken) (c .loop-i .inv .climbs) in
     omega (arith, here .0, limit-is (getD (c .bands-bands .result .now) (c .loop-i .i) no-band) (c .args .sheet .now .rows) _ _ (c .six-sums-sums .ensures) (c .limit-reach .ensures))
 
@@ -62,7 +64,7 @@ loop-i-again c =
     let takes : c .min .result - c .min-in-loop-i .result ≡ min (total rows) (c .limit-reach .result) - min (total rows) (c .loop-i .below) = omega arith in
     split-more rows bands (self .last .units) (c .loop-i .below) (c .limit-reach .result) (c .loop-i .i) (c .loop-i .shares) (c .share .result)
     (c .loop-i-test .taken) (omega (arith, few (self .count) (self .bands) bands (self .five) (self .few) (c .bands-bands .ensures)))
-    (limit-is (getD bands (c .loop-i .i) no-band) rows _ _ (c .six-sums-sums .ensures) (c .limit-reach .ensures)) (c .share .ensures ∙ ap (share (getD bands (c .loop-i .i) no-band .price .units)) takes) (c .loop-i .inv)
+    (limit-is (getD bands (c .loop-i .i) no-band) rows _ _ (c .six-sums-sums .ensures) (c .limit-reach .ensures)) (c .share .ensures ∙ ap (share (getD bands (c .loop-i .i) no-band .price .units) (Some (kwh-of (c .limit-reach .result)))) takes) (c .loop-i .inv)
 
 pub share-requires-2 : need.share-requires-2
 share-requires-2 c κs =
@@ -85,6 +87,6 @@ returns c =
     let inv = subst (λ n. Splits rows bands (self .last .units) (c .loop-i .below) n (c .loop-i .shares)) end (c .loop-i .inv) in
     let shares = split-last rows bands (self .last .units) (c .loop-i .below) (length bands) (c .loop-i .shares) (c .share-2 .result)
     refl (omega (arith, few (self .count) (self .bands) bands (self .five) (self .few) (c .bands-bands .ensures)))
-    (c .share-2 .ensures ∙ ap (share (self .last .units)) takes) inv
+    (c .share-2 .ensures ∙ ap (share (self .last .units) None) takes) inv
     ∙ ap (λ l. split l (self .last .units) rows) (c .bands-bands .ensures) in
     record { shares = shares; whole = ap kwhs shares ∙ table-whole rows (bands-of self) (self .last .units) (self .kept) }
