@@ -1,2 +1,3 @@
 pub mod Listed
-pub mod Worded
+pub mod Argued
+pub mod Bought

@@ -2,4 +2,4 @@ pub mod Texts
 pub mod Shandong
 pub mod Years
 pub mod Lines
-pub mod Words
+pub mod Arguments

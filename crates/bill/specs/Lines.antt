@@ -1,24 +1,18 @@
 -- The lines of a bill.
-use Prim.Native.Nat.{ℕ, suc}
+use Prim.Native.Nat.{ℕ}
 use mathlib.Core.List.{List, [], _∷_, _++_}
 use lib.IntN.{pos}
 use Rattle.sheet.specs.Money.{rounded}
-use Rattle.sheet.specs.Rows.{kwh-of}
+use Rattle.sheet.specs.Rows.{kwh, kwh-of, numbered}
 use Rattle.sheet.specs.Sums.{total}
 use Rattle.sheet.specs.declared.row.Row.{Row}
 use Rattle.tariff.specs.Faults.{units-of}
-use Rattle.tariff.specs.declared.band.Share.{Share}
 use Rattle.bill.specs.Shandong.{shares, cost}
 use Rattle.bill.specs.declared.lines.Line.{Line}
 use Rattle.bill.specs.declared.lines.Line.the-variants.{Month, Total, Tier, Sum}
 
--- a line for each, numbered from n on
-unfoldable pub numbered : {X : Type 0} → (ℕ → X → Line) → ℕ → List X → List Line
-numbered f n [] = []
-numbered f n (x ∷ xs) = f n x ∷ numbered f (suc n) xs
-
 abbrev pub month-line : ℕ → Row → Line
-month-line m r = Month m (r .bought) (r .multi)
+month-line m r = Month m (kwh-of (kwh r)) (r .multi)
 
 -- what all tiers cost, and that in whole fen
 abbrev pub sum-line : List Row → Line

@@ -8,13 +8,13 @@ pub struct Household {
     pub multi_from: Option<u64>,
 }
 
-/// Why the words of a command line are not a household's year.
-#[derive(Clone, Copy)]
+/// Why the arguments of a command line are not a household's year.
+#[derive(Clone, Copy, PartialEq, Eq, Debug)]
 pub enum ArgumentFault {
-    /// There are neither 12 nor 13 words.
+    /// There are neither 12 nor 13 arguments.
     Count { given: usize },
-    /// The word of a month is no whole number from 0 to 999,999.
+    /// The argument of a month is no whole number from 0 to 999,999.
     Kwh { month: usize },
-    /// The thirteenth word is no whole number from 1 to 12.
+    /// The thirteenth argument is no whole number from 1 to 12.
     Month,
 }

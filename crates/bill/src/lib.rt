@@ -1,7 +1,7 @@
-//! One household's year, rated by Shandong's tiers and told line by line.
+//! One household's year, rated by Shandong's tiers and explained line by line.
+pub mod arguments;
 pub mod bill;
 pub mod household;
-pub mod line;
 pub mod lines;
 pub mod rating;
-pub mod words;
+pub mod texts;

@@ -1,71 +1,79 @@
 //! Rating a household's year, and the lines of its bill.
 ghost use mathlib.Core.Path.{_≡_};
-ghost use mathlib.Core.Bool.{cond};
+ghost use Prim.Native.Nat.{_≤_};
 ghost use lib.ListN.{length};
 ghost use Rattle.std.specs.Options.{mapped};
 ghost use Rattle.std.specs.shelf.Maps.{nth};
-ghost use Rattle.std.specs.declared.option.Option.the-variants.{Some, None};
-ghost use Rattle.sheet.specs.Rows.{all-fit};
+ghost use Rattle.sheet.specs.Rows.{kwh, kwh-of, row-limit};
 ghost use Rattle.tariff.specs.Faults.{units-of};
 ghost use Rattle.tiers.specs.Splits.{shares-of};
-ghost use Rattle.bill.specs.Shandong.{shares, cost};
-ghost use Rattle.bill.specs.Years.{has-mark, row-of, rows-of};
 ghost use Rattle.bill.specs.Lines.{lines, end-lines};
+ghost use Rattle.bill.specs.Shandong.{shares, cost};
+ghost use Rattle.bill.specs.Years.{marked-year, rows-of};
 use crate::bill::Bill;
 use crate::household::Household;
 use crate::lines::Line;
 use sheet::quantity::Kwh;
 use sheet::quantity::Units;
+use sheet::row::Booking;
+use sheet::row::Marking;
 use sheet::row::Row;
+use sheet::row::YearMarks;
 use sheet::row::YearRows;
+use sheet::rows::blank_year;
+use sheet::rows::booked_in;
+use sheet::rows::marked_after;
 use sheet::sheet::Sheet;
 use tariff::tariff::Tariff;
 use tiers::published::shandong;
 use tiers::shares::Split;
 use tiers::tiers::TiersTariff;
 
-fn has_mark(multi_from: Option<u64>, month: u64) -> bool
-    ensures { λ r. ⌜ r ≡ has-mark «multi_from» month ⌝ }
+fn marked_year(multi_from: Option<u64>) -> YearRows
+    ensures { λ r. ⌜ r ≡ marked-year «multi_from» ⌝ }
 {
+    let rows = blank_year(YearMarks {
+        counted_from: 1,
+        multi_until: 0,
+        timed_from: 13,
+    });
     match multi_from {
-        Some(from) => from <= month,
-        None => false,
-    }
-}
-
-fn row_of(month: u64, multi_from: Option<u64>, kwh: Kwh) -> Row
-    ensures { λ r. ⌜ r ≡ row-of month «multi_from» kwh ⌝ }
-{
-    let none = Kwh { kwh: 0 };
-    Row {
-        counted: true,
-        multi: has_mark(multi_from, month),
-        timed: false,
-        peak: none,
-        valley: none,
-        bought: kwh,
+        Some(month) => marked_after(&rows, month.saturating_sub(1), Marking::MultiPerson),
+        None => rows,
     }
 }
 
 impl Household {
-    /// Its rows: all months counted, multi-person from the given month on, no time of use, the kWh as bought.
-    pub fn rows(&self) -> YearRows
+    /// Its rows: all months counted, multi-person from the given month on, the kWh of each month bought in it; none
+    /// where a month has more than 999,999 kWh.
+    pub fn rows(&self) -> Option<YearRows>
         ensures { λ r. ⌜ r ≡ rows-of (now (self .entry)) ⌝ }
     {
-        let mut rows = [row_of(0, None, Kwh { kwh: 0 }); 12];
-        for i in 0..12usize {
-            rows[i] = row_of(i as u64 + 1, self.multi_from, self.kwh[i]);
+        let year: &[Kwh] = &self.kwh;
+        let mut rows = marked_year(self.multi_from);
+        for (i, kwh) in year.iter().enumerate() {
+            rows = booked_in(&rows, i as u64 + 1, Booking::Purchase { bought: *kwh })?;
         }
-        rows
+        Some(rows)
+    }
+}
+
+fn used(row: Row) -> Kwh
+    requires { ⌜ kwh row ≤ row-limit ⌝ }
+    ensures { λ r. ⌜ r ≡ kwh-of (kwh row) ⌝ }
+{
+    Kwh {
+        kwh: row.peak.kwh + row.valley.kwh + row.bought.kwh,
     }
 }
 
 impl Bill {
     /// The bill of a household's year; none where a month has more than 999,999 kWh.
     pub fn new(household: &Household) -> Option<Bill>
-        ensures { λ r. ⌜ mapped (λ b. b .sheet .rows) r ≡ cond (all-fit (rows-of (now (household .entry)))) (Some (rows-of (now (household .entry)))) None ⌝ }
+        ensures { λ r. ⌜ mapped (λ b. b .sheet .rows) r ≡ rows-of (now (household .entry)) ⌝ }
     {
-        let sheet = Sheet::new(household.rows())?;
+        let rows = household.rows()?;
+        let sheet = Sheet::new(rows)?;
         Some(Bill { sheet })
     }
 
@@ -90,7 +98,8 @@ impl Bill {
     pub fn len(&self) -> usize
         ensures { λ r. ⌜ r ≡ length (lines (now (self .entry) .sheet .rows)) ⌝ }
     {
-        14 + self.split().shares().len()
+        // The months, the year, the tiers, the sum.
+        12 + 1 + self.split().shares().len() + 1
     }
 
     /// Its lines: each month, the year's kWh, each tier, the sum. None past the last.
@@ -101,7 +110,7 @@ impl Bill {
             let row = self.sheet.rows()[k];
             return Some(Line::Month {
                 month: k as u64 + 1,
-                kwh: row.bought,
+                kwh: used(row),
                 multi: row.multi,
             });
         }

@@ -8,7 +8,7 @@ use lib.ListN.{length, getD, set, replicate, length-set}
 use lib.Seq.{getD-set-same, getD-set-other}
 use borrow.Author.Count.{below-more}
 use Rattle.std.proofs.shelf.Lists.{ext-getD}
-use Rattle.sheet.specs.Rows.{none, rows-from, months}
+use Rattle.sheet.specs.Rows.{none, numbered, months}
 use Rattle.sheet.specs.declared.row.Row.{Row}
 
 -- the rows below i are f of their month and what they were in s; the others are as in s
@@ -17,16 +17,16 @@ pub record Changed (f : ℕ → Row → Row) (i : ℕ) (s t : List Row) : Type 0
   pub before : (k : ℕ) → k < i → getD t k none ≡ f (suc k) (getD s k none)
   pub after : (k : ℕ) → i ≤ k → getD t k none ≡ getD s k none
 
-rows-size : (f : ℕ → Row → Row) (k : ℕ) (s : List Row) → length (rows-from f k s) ≡ length s
-unfolding rows-from
+rows-size : (f : ℕ → Row → Row) (k : ℕ) (s : List Row) → length (numbered f k s) ≡ length s
+unfolding numbered
 rows-size f k [] = refl
-rows-size f k (r ∷ s) = ap suc (rows-size f (suc k) s)
+rows-size f k (r ∷ s) = ap suc (rows-size f (k + 1) s)
 
-rows-at : (f : ℕ → Row → Row) (k : ℕ) (s : List Row) (i : ℕ) → i < length s → getD (rows-from f k s) i none ≡ f (k + i) (getD s i none)
-unfolding rows-from
+rows-at : (f : ℕ → Row → Row) (k : ℕ) (s : List Row) (i : ℕ) → i < length s → getD (numbered f k s) i none ≡ f (k + i) (getD s i none)
+unfolding numbered
 rows-at f k [] i h = absurd (omega arith)
 rows-at f k (r ∷ s) zero h = ap (λ n. f n r) (omega arith)
-rows-at f k (r ∷ s) (suc i) h = rows-at f (suc k) s i (omega arith) ∙ ap (λ n. f n (getD s i none)) (omega arith)
+rows-at f k (r ∷ s) (suc i) h = rows-at f (k + 1) s i (omega arith) ∙ ap (λ n. f n (getD s i none)) (omega arith)
 
 pub unchanged : (f : ℕ → Row → Row) (s : List Row) → Changed f 0 s s
 unchanged f s = record { size = refl; before = λ k h. absurd (omega arith); after = λ k h. refl }
@@ -49,13 +49,13 @@ set-one f i s t v l is d = record {
   after = λ k b. let ne : k ≢ i = omega arith in getD-set-other t i k _ none ne ∙ d .after k (omega arith);
 }
 
-pub all-changed : (f : ℕ → Row → Row) (i : ℕ) (s t : List Row) → length s ≤ i → Changed f i s t → t ≡ rows-from f 1 s
+pub all-changed : (f : ℕ → Row → Row) (i : ℕ) (s t : List Row) → length s ≤ i → Changed f i s t → t ≡ numbered f 1 s
 all-changed f i s t h d =
-    ext-getD none t (rows-from f 1 s) (d .size ∙ sym (rows-size f 1 s))
+    ext-getD none t (numbered f 1 s) (d .size ∙ sym (rows-size f 1 s))
     (λ k l. let j : k < length s = omega (arith, d .size) in
     d .before k (omega arith) ∙ ap (λ n. f n (getD s k none)) (omega arith) ∙ sym (rows-at f 1 s k j))
 
 -- twelve rows, each made of its month alone
-pub by-month : (f : ℕ → Row) (r : Row) → rows-from (λ k _. f k) 1 (replicate 12 r) ≡ map f months
-unfolding rows-from
+pub by-month : (f : ℕ → Row) (r : Row) → numbered (λ k _. f k) 1 (replicate 12 r) ≡ map f months
+unfolding numbered
 by-month f r = refl

@@ -1,5 +1,5 @@
 -- Rows within their limits, and what keeps them there.
-use Prim.Native.Nat.{ℕ, zero, suc, _+_, _<_, _≤_}
+use Prim.Native.Nat.{ℕ, zero, suc, _+_, _-_, _<_, _≤_}
 use native.Mathlib.Omega.{arith}
 use mathlib.Core.Bool.{Bool, true, false, cond, _&&_}
 use mathlib.Core.List.{List, [], _∷_}
@@ -8,8 +8,14 @@ use lib.Dec.{leb}
 use lib.ListN.{length, drop, getD, set}
 use Rattle.std.proofs.shelf.Lists.{at-drop-more, at-drop-all}
 use Rattle.std.proofs.shelf.Tests.{and-parts, leb-true, le-leb}
-use Rattle.sheet.specs.Rows.{kwh, none, fits, all-fit, rows-from, after-month}
+use Rattle.std.specs.Options.{mapped}
+use Rattle.std.specs.declared.option.Option.the-variants.{Some, None}
+use Rattle.sheet.specs.Rows.{kwh, none, fits, all-fit, row-of, booked, is-month, booked-in, marked, numbered, after-month, blank-year}
+use Rattle.sheet.specs.declared.row.Booking.{Booking}
+use Rattle.sheet.specs.declared.row.Marking.{Marking}
+use Rattle.sheet.specs.declared.row.Marking.the-variants.{Uncount, MultiPerson, TimeOfUse, NoTimeOfUse}
 use Rattle.sheet.specs.declared.row.Row.{Row}
+use Rattle.sheet.specs.declared.row.YearMarks.{YearMarks}
 
 -- one step of a loop that tests each row
 pub all-fit-more : (rs : List Row) (i : ℕ) → i < length rs → all-fit (drop i rs) ≡ (fits (getD rs i none) && all-fit (drop (i + 1) rs))
@@ -41,10 +47,10 @@ all-fit-set (r ∷ rs) (suc k) x h p =
     and-true (fits r) (all-fit (set rs k x)) (q .0) (all-fit-set rs k x (q .1) p)
 
 -- rows whose kWh stay are within their limits as before
-pub all-fit-rows : (f : ℕ → Row → Row) → ((k : ℕ) (r : Row) → kwh (f k r) ≡ kwh r) → (k : ℕ) (s : List Row) → all-fit (rows-from f k s) ≡ all-fit s
-unfolding rows-from all-fit
+pub all-fit-rows : (f : ℕ → Row → Row) → ((k : ℕ) (r : Row) → kwh (f k r) ≡ kwh r) → (k : ℕ) (s : List Row) → all-fit (numbered f k s) ≡ all-fit s
+unfolding numbered all-fit
 all-fit-rows f e k [] = refl
-all-fit-rows f e k (r ∷ s) = ap (λ n. leb n 999999 && all-fit (rows-from f (suc k) s)) (e k r) ∙ ap (λ b. fits r && b) (all-fit-rows f e (suc k) s)
+all-fit-rows f e k (r ∷ s) = ap (λ n. leb n 999999 && all-fit (numbered f (k + 1) s)) (e k r) ∙ ap (λ b. fits r && b) (all-fit-rows f e (k + 1) s)
 
 same-kwh : (f : Row → Row) → ((r : Row) → kwh (f r) ≡ kwh r) → (b : Bool) (r : Row) → kwh (cond b r (f r)) ≡ kwh r
 same-kwh f e true r = refl
@@ -52,3 +58,27 @@ same-kwh f e false r = e r
 
 pub all-fit-after : (f : Row → Row) → ((r : Row) → kwh (f r) ≡ kwh r) → (m : ℕ) (s : List Row) → all-fit (after-month m f s) ≡ all-fit s
 all-fit-after f e m s = all-fit-rows (λ k r. cond (leb k m) r (f r)) (λ k r. same-kwh f e (leb k m) r) 1 s
+
+-- ---- what is done to rows leaves them within their limits
+
+pub marked-kwh : (g : Marking) (r : Row) → kwh (marked g r) ≡ kwh r
+marked-kwh Uncount r = refl
+marked-kwh MultiPerson r = refl
+marked-kwh TimeOfUse r = refl
+marked-kwh NoTimeOfUse r = refl
+
+pub all-fit-blank : (y : YearMarks) → all-fit (blank-year y) ≡ true
+unfolding all-fit
+all-fit-blank y = refl
+
+booked-step : (is full : Bool) (rows rows′ : List Row) (k : ℕ) (x : Row) → all-fit rows ≡ true → fits x ≡ full
+    → Some rows′ ≡ cond is (mapped (set rows k) (cond full (Some x) None)) None → all-fit rows′ ≡ true
+booked-step true true rows rows′ k x h f e =
+    let same : rows′ ≡ set rows k x = cc in
+    ap all-fit same ∙ all-fit-set rows k x h f
+booked-step true false rows rows′ k x h f e = let z : _≡_ {A = ℕ} 0 1 = cc in absurd (omega arith)
+booked-step false full rows rows′ k x h f e = let z : _≡_ {A = ℕ} 0 1 = cc in absurd (omega arith)
+
+-- a booking that is granted
+pub all-fit-booked : (m : ℕ) (b : Booking) (rows rows′ : List Row) → all-fit rows ≡ true → Some rows′ ≡ booked-in m b rows → all-fit rows′ ≡ true
+all-fit-booked m b rows rows′ h e = booked-step (is-month m) (fits (booked b (row-of m rows))) rows rows′ (m - 1) (booked b (row-of m rows)) h refl e

@@ -1,5 +1,5 @@
 -- The rows of a year: what they hold, and what is done to them.
-use Prim.Native.Nat.{ℕ, suc, _+_, _-_}
+use Prim.Native.Nat.{ℕ, _+_, _-_}
 use mathlib.Core.Bool.{Bool, true, false, cond, _&&_}
 use mathlib.Core.List.{List, [], _∷_, map}
 use mathlib.Core.Path.{_≡_}
@@ -27,17 +27,24 @@ kwh r = r .peak .kwh + r .valley .kwh + r .bought .kwh
 abbrev pub blank : (counted multi timed : Bool) → Row
 blank c m t = record { counted = c; multi = m; timed = t; peak = kwh-of 0; valley = kwh-of 0; bought = kwh-of 0 }
 
--- what a reading past the end of a list of rows would give
+-- what stands for a month without a row
 abbrev pub none : Row
 none = blank false false false
 
--- a row holds at most 999,999 kWh
+-- the most kWh of a row
+abbrev pub row-limit : ℕ
+row-limit = 999999
+
 abbrev pub fits : Row → Bool
-fits r = leb (kwh r) 999999
+fits r = leb (kwh r) row-limit
 
 unfoldable pub all-fit : List Row → Bool
 all-fit [] = true
 all-fit (r ∷ rs) = fits r && all-fit rs
+
+-- rows if each is within its limit
+abbrev pub all-fitting : List Row → Option (List Row)
+all-fitting rows = cond (all-fit rows) (Some rows) None
 
 -- twelve rows, each within its limit
 pub record Proper (rows : List Row) : Type 0 where
@@ -81,14 +88,14 @@ marked MultiPerson r = record { counted = r .counted; multi = true; timed = r .t
 marked TimeOfUse r = record { counted = r .counted; multi = r .multi; timed = true; peak = r .peak; valley = r .valley; bought = r .bought }
 marked NoTimeOfUse r = record { counted = r .counted; multi = r .multi; timed = false; peak = r .peak; valley = r .valley; bought = r .bought }
 
--- f of each row and its month in the row's place; the first row is of month m
-unfoldable pub rows-from : (ℕ → Row → Row) → ℕ → List Row → List Row
-rows-from f m [] = []
-rows-from f m (r ∷ rs) = f m r ∷ rows-from f (suc m) rs
+-- f of each element and its number, the first numbered n
+unfoldable pub numbered : {X Y : Type 0} → (ℕ → X → Y) → (n : ℕ) → List X → List Y
+numbered f n [] = []
+numbered f n (x ∷ xs) = f n x ∷ numbered f (n + 1) xs
 
 -- the rows after month m changed, the others as they were
 abbrev pub after-month : ℕ → (Row → Row) → List Row → List Row
-after-month m f rows = rows-from (λ k r. cond (leb k m) r (f r)) 1 rows
+after-month m f rows = numbered (λ k r. cond (leb k m) r (f r)) 1 rows
 
 -- ---- a blank year
 

@@ -7,9 +7,9 @@ use Rattle.sheet.specs.Rows.{kwh, kwh-of}
 use Rattle.sheet.specs.declared.row.Row.{Row}
 use Rattle.sheet.specs.declared.sums.SixSums.{SixSums}
 
--- of the months 1 to 12, the heating months are 12, 1, 2, 3 and 4
-abbrev pub heating : ℕ → Bool
-heating month = leb month 4 || eqb month 12
+-- the heating months are 12, 1, 2, 3 and 4
+abbrev pub heating : (month : ℕ) → Bool
+heating m = eqb m 12 || (leb 1 m && leb m 4)
 
 -- the sum of f over rows of which the first is of this month
 unfoldable pub sum-from : (ℕ → Row → ℕ) → ℕ → List Row → ℕ

@@ -30,9 +30,13 @@ pub enum Booking {
 /// What becomes of the marks of the rows after a month.
 #[derive(Clone, Copy)]
 pub enum Marking {
+    /// They no longer count.
     Uncount,
+    /// They have the allowance of a multi-person household.
     MultiPerson,
+    /// They are priced by time of use.
     TimeOfUse,
+    /// They no longer are.
     NoTimeOfUse,
 }
 

@@ -1,6 +1,6 @@
 //! The sums over the rows of a year's sheet.
 ghost use mathlib.Core.Path.{_≡_};
-ghost use Prim.Native.Nat.{_+_, _*_, _≤_};
+ghost use Rattle.sheet.specs.Rows.{kwh-of};
 ghost use Rattle.sheet.specs.Sums as means;
 use crate::quantity::Kwh;
 use crate::quantity::KwhDebug;
@@ -21,10 +21,10 @@ pub struct SixSums {
 }
 
 /// Whether a month is a heating month: 12, 1, 2, 3 and 4.
-pub fn is_heating(month: usize) -> bool
+pub fn is_heating(month: u64) -> bool
     ensures { λ r. ⌜ r ≡ means.heating month ⌝ }
 {
-    month <= 4 || month == 12
+    month == 12 || (1 <= month && month <= 4)
 }
 
 impl Sheet {
@@ -59,8 +59,8 @@ impl Sheet {
     }
 
     // Of the rows marked time of use, the peak kWh and the valley kWh of heating and of other months.
-    fn timed(&self) -> (u64, u64, u64)
-        ensures { λ r. ⌜ r ≡ (means.timed-peak (now (self .entry) .rows), means.timed-heating (now (self .entry) .rows), means.timed-other (now (self .entry) .rows)) ⌝ }
+    fn timed(&self) -> (Kwh, Kwh, Kwh)
+        ensures { λ r. ⌜ r ≡ (kwh-of (means.timed-peak (now (self .entry) .rows)), kwh-of (means.timed-heating (now (self .entry) .rows)), kwh-of (means.timed-other (now (self .entry) .rows))) ⌝ }
     {
         let rows: &[Row] = &self.rows;
         let mut peak = 0;
@@ -69,14 +69,14 @@ impl Sheet {
         for (i, row) in rows.iter().enumerate() {
             if row.timed {
                 peak += row.peak.kwh;
-                if is_heating(i + 1) {
+                if is_heating(i as u64 + 1) {
                     heating += row.valley.kwh;
                 } else {
                     other += row.valley.kwh;
                 }
             }
         }
-        (peak, heating, other)
+        (Kwh { kwh: peak }, Kwh { kwh: heating }, Kwh { kwh: other })
     }
 
     /// The six sums of the sheet.
@@ -89,9 +89,9 @@ impl Sheet {
             counted,
             multi,
             total: self.total(),
-            peak: Kwh { kwh: peak },
-            heating: Kwh { kwh: heating },
-            other: Kwh { kwh: other },
+            peak,
+            heating,
+            other,
         }
     }
 }

@@ -73,6 +73,6 @@ layer-alike below c h x y e =
     ap₂ (λ (n : ℕ) (z : SixSums). n + c .rise .units * z .peak .kwh - (used below (c .ordinary .units) * z .other .kwh + used below (c .heating .units) * z .heating .kwh)) (h x y e) e
 
 pub plain-alike : {r : Rate} → Plain r → Alike r
-plain-alike (flat price) = flat-alike price
-plain-alike (tiers bands last) = tiers-alike bands last
-plain-alike (layer below c p) = layer-alike below c (plain-alike p)
+plain-alike (flat price h) = flat-alike price
+plain-alike (tiers bands last h) = tiers-alike bands last
+plain-alike (layer below c h p) = layer-alike below c (plain-alike p)

@@ -9,7 +9,7 @@ use Rattle.fault.specs.declared.Code.{Code}
 use Rattle.fault.specs.declared.Layer.the-variants.{Tariff}
 use Rattle.sheet.specs.declared.quantity.Units.{Units}
 use Rattle.sheet.specs.declared.row.Row.{Row}
-use Rattle.tariff.specs.Rate.{Rate}
+use Rattle.tariff.specs.Rate.{Rate, answer-limit}
 use Rattle.tariff.specs.declared.fault.TariffFault.{TariffFault}
 use Rattle.tariff.specs.declared.fault.TariffFault.the-variants.{TooDear, Unlawful}
 
@@ -23,7 +23,7 @@ units-of n = record { units = n }
 
 -- asked for a charge, a tariff refuses where its dearest price is above 100,000, and else answers the charge it means
 abbrev pub answer : Rate → List Row → Result Units TariffFault
-answer r rows = cond (leb (r .dearest) 100000) (Ok (units-of (r .charge rows))) (Err TooDear)
+answer r rows = cond (leb (r .dearest) answer-limit) (Ok (units-of (r .charge rows))) (Err TooDear)
 
 -- what is made of values that keep the rules, and the refusal of any others
 abbrev pub lawful-or : {V : Type 0} → Bool → V → Result V TariffFault

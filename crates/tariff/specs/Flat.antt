@@ -5,9 +5,13 @@ use lib.Dec.{leb}
 use Rattle.sheet.specs.Sums.{total}
 use Rattle.tariff.specs.Rate.{Rate}
 
--- a price is 1 to 20,000 units
+-- the most that a price, a rise or a cut may be
+abbrev pub price-limit : ℕ
+price-limit = 20000
+
+-- the price of a tier or a flat price
 abbrev pub is-price : ℕ → Bool
-is-price p = leb 1 p && leb p 20000
+is-price p = leb 1 p && leb p price-limit
 
 -- it is both the cheapest and the dearest
 abbrev pub flat-rate : ℕ → Rate

@@ -24,12 +24,12 @@ limit b rows = sum-from (row-standard b) 1 rows
 abbrev pub share : (price : ℕ) → (limit : Option Kwh) → (kwh : ℕ) → Share
 share p l k = record { price = units-of p; limit = l; kwh = kwh-of k; charge = units-of (k * p) }
 
--- what each tier takes, the last of all too: the kWh up to its limit but for those up to the limit before it,
--- and the last one the rest; `below` is the limit before the first of these tiers
-unfoldable pub split-from : (below : ℕ) → List Band → (last : ℕ) → List Row → List Share
-split-from below [] last rows = share last None (total rows - min (total rows) below) ∷ []
-split-from below (b ∷ bs) last rows =
-    share (b .price .units) (Some (kwh-of (limit b rows))) (min (total rows) (limit b rows) - min (total rows) below) ∷ split-from (limit b rows) bs last rows
+-- what each tier takes, the last included: the kWh up to its limit but for those up to the limit before it,
+-- and the last one the rest; `before` is the limit before the first of these tiers
+unfoldable pub split-from : (before : ℕ) → List Band → (last : ℕ) → List Row → List Share
+split-from before [] last rows = share last None (total rows - min (total rows) before) ∷ []
+split-from before (b ∷ bs) last rows =
+    share (b .price .units) (Some (kwh-of (limit b rows))) (min (total rows) (limit b rows) - min (total rows) before) ∷ split-from (limit b rows) bs last rows
 
 -- of a whole table: the tiers but the last, and the last price
 abbrev pub split : List Band → (last : ℕ) → List Row → List Share

@@ -1,9 +1,8 @@
-//! Tiers as plain data: what a tier but the last asks, and what a tier takes of a year.
+//! Tiers as plain data: the price and standards of a tier other than the last, and what a tier takes of a year.
 use sheet::quantity::Kwh;
 use sheet::quantity::Units;
 
-/// A tier but the last: its price, and the kWh of each counted month up to which it reaches, by the standard of an
-/// ordinary and of a multi-person month.
+/// A tier other than the last: its price and its standards in kWh a month, ordinary and multi-person.
 #[derive(Clone, Copy)]
 pub struct Band {
     pub price: Units,

@@ -4,6 +4,7 @@ ghost use Rattle.tariff.specs.Faults.{code};
 use fault::Code;
 use fault::Layer;
 
+/// Why a tariff refuses.
 #[derive(Clone, Copy, PartialEq, Eq, Debug)]
 pub enum TariffFault {
     /// Asked for a charge, the dearest price is above 100,000.

@@ -1,16 +1,15 @@
 //! Time of use over any tariff: a rise for peak kWh and cuts for valley kWh, in the rows so marked.
 ghost use mathlib.Core.Path.{_≡_};
 ghost use Prim.Native.Nat.{_≤_};
-ghost use Rattle.std.specs.Vec.{made};
 ghost use Rattle.tariff.specs.Faults.{granted, lawful-or};
 ghost use Rattle.tariff.specs.Layer.{layer-rate, are-changes};
-ghost use Rattle.tariff.specs.Plain.{Plain, Alike};
 use crate::changes::Changes;
 use crate::fault::TariffFault;
 use crate::tariff::Tariff;
 use sheet::quantity::Units;
 use sheet::sheet::Sheet;
 
+/// Time of use over a tariff.
 #[derive(Drop)]
 pub struct TimeOfUse<T> {
     below: T,
@@ -20,13 +19,11 @@ pub struct TimeOfUse<T> {
     ghost heating_high: { changes .heating .units ≤ 20000 },
 }
 
-impl<T: Tariff + Drop> TimeOfUse<T> {
+impl<T: Drop> TimeOfUse<T> {
     /// Time of use over a tariff; refused where the rise or a cut is above 20,000.
     pub fn new(below: T, changes: Changes) -> Result<TimeOfUse<T>, TariffFault>
         ensures tariff { λ r. ⌜ granted (λ t. t .below) r ≡ lawful-or (are-changes changes) below ⌝ }
         ensures changes { λ r. ⌜ granted (λ t. t .changes) r ≡ lawful-or (are-changes changes) changes ⌝ }
-        ensures plain { λ r. ⌜ made r (λ t. Plain (T·Tariff .rate (t .below)) → Plain (layer-rate (T·Tariff .rate (t .below)) (t .changes))) ⌝ }
-        ensures alike { λ r. ⌜ made r (λ t. Alike (T·Tariff .rate (t .below)) → Alike (layer-rate (T·Tariff .rate (t .below)) (t .changes))) ⌝ }
     {
         let Changes {
             rise,
@@ -42,6 +39,8 @@ impl<T: Tariff + Drop> TimeOfUse<T> {
 
 pub impl<T: Tariff> Tariff for TimeOfUse<T> as TimeOfUseTariff {
     ghost rate = { λ t. layer-rate (T·Tariff .rate (t .below)) (t .changes) };
+
+    ghost plain = { λ t. T·Tariff .plain (t .below) };
 
     fn cheapest(&self) -> Units {
         let below = self.below.cheapest().units;
@@ -60,7 +59,7 @@ pub impl<T: Tariff> Tariff for TimeOfUse<T> as TimeOfUseTariff {
     }
 
     fn charge(&self, sheet: &Sheet) -> Result<Units, TariffFault> {
-        if self.below.dearest().units + self.changes.rise.units > 100_000 {
+        if self.dearest().units > 100_000 {
             return Err(TariffFault::TooDear);
         }
         let below = self.below.charge(sheet)?;

@@ -16,7 +16,7 @@ use Rattle.tariff.specs.Flat.{is-price}
 use Rattle.tariff.specs.Tiered.{row-standard, limit, first-price}
 use Rattle.tariff.specs.declared.band.Band.{Band}
 use Rattle.tariff.proofs.SameCharge.{limit-by-months}
-use Rattle.tiers.specs.Lawful.{in-range, not-below, may-follow, may-end, rises, lowest, lawful}
+use Rattle.tariff.specs.Table.{in-range, not-below, may-follow, may-end, rises, lowest, lawful-table}
 
 -- one tier of a rising table
 pub record Step (a b : Band) (bs : List Band) (last : ℕ) : Type 0 where
@@ -40,7 +40,7 @@ step a b bs last h =
     let wider = and-parts _ (leb (a .multi .kwh) (b .multi .kwh)) (follow .1) in
     let further = and-parts (leb (a .price .units) (b .price .units)) (leb (a .ordinary .kwh) (b .ordinary .kwh)) (wider .0) in
     let multi = leb-true (b .multi .kwh) 10000 (high .1) in
-    let below = leb-true (b .ordinary .kwh) (b .multi .kwh) (apart .1) in
+    let before = leb-true (b .ordinary .kwh) (b .multi .kwh) (apart .1) in
     record {
       priced = leb-true (b .price .units) 20000 (price .1);
       ordinary = omega arith;
@@ -80,25 +80,25 @@ limit-rises a b k [] h j = omega arith
 limit-rises a b k (r ∷ rows) h j =
     omega (arith, standard-rises (r .counted) (r .multi) (a .ordinary .kwh) (a .multi .kwh) (b .ordinary .kwh) (b .multi .kwh) h j, limit-rises a b (k + 1) rows h j)
 
--- each of these tiers reaches as far as the one before it, from `below` on, by small standards and at a small price
-abbrev pub Climbs : List Row → (below : ℕ) → List Band → Type 0
-Climbs rows below [] = Unit {0}
-Climbs rows below (b ∷ bs) = (below ≤ limit b rows) × (b .ordinary .kwh ≤ 10000) × (b .multi .kwh ≤ 10000) × (b .price .units ≤ 20000) × Climbs rows (limit b rows) bs
+-- each of these tiers reaches as far as the one before it, from `before` on, by small standards and at a small price
+abbrev pub Climbs : List Row → (before : ℕ) → List Band → Type 0
+Climbs rows before [] = Unit {0}
+Climbs rows before (b ∷ bs) = (before ≤ limit b rows) × (b .ordinary .kwh ≤ 10000) × (b .multi .kwh ≤ 10000) × (b .price .units ≤ 20000) × Climbs rows (limit b rows) bs
 
-climbs-from : (rows : List Row) (below : ℕ) (a : Band) (bs : List Band) (last : ℕ) → rises a bs last ≡ true → below ≤ limit a rows → Climbs rows below bs
-climbs-from rows below a [] last h le = tt
-climbs-from rows below a (b ∷ bs) last h le =
+climbs-from : (rows : List Row) (before : ℕ) (a : Band) (bs : List Band) (last : ℕ) → rises a bs last ≡ true → before ≤ limit a rows → Climbs rows before bs
+climbs-from rows before a [] last h le = tt
+climbs-from rows before a (b ∷ bs) last h le =
     let s = step a b bs last h in
     (omega (arith, limit-rises a b 1 rows (s .further) (s .wider)), s .ordinary, s .multi, s .priced, climbs-from rows (limit b rows) b bs last (s .rest) (omega arith))
 
 -- of a whole table
-pub table-rises : (bs : List Band) (last : ℕ) → lawful bs last ≡ true → rises lowest bs last ≡ true
+pub table-rises : (bs : List Band) (last : ℕ) → lawful-table bs last ≡ true → rises lowest bs last ≡ true
 table-rises bs last h = and-parts (leb (length bs) 5) (rises lowest bs last) h .1
 
-pub table-climbs : (rows : List Row) (bs : List Band) (last : ℕ) → lawful bs last ≡ true → Climbs rows 0 bs
+pub table-climbs : (rows : List Row) (bs : List Band) (last : ℕ) → lawful-table bs last ≡ true → Climbs rows 0 bs
 table-climbs rows bs last h = climbs-from rows 0 lowest bs last (table-rises bs last h) (omega arith)
 
-pub table-prices : (bs : List Band) (last : ℕ) → lawful bs last ≡ true → (first-price bs last ≤ last) × (last ≤ 20000)
+pub table-prices : (bs : List Band) (last : ℕ) → lawful-table bs last ≡ true → (first-price bs last ≤ last) × (last ≤ 20000)
 table-prices bs last h = (first-cheapest lowest bs last (table-rises bs last h) .1, last-dearest lowest bs last (table-rises bs last h) .1)
 
 -- a limit by its months, ordinary and multi-person

@@ -1,12 +1,12 @@
 -- The figures, by computing the definitions.
 use mathlib.Core.Path.{refl}
-use Rattle.sheet.specs.Rows.{rows-from}
+use Rattle.sheet.specs.Rows.{numbered}
 use Rattle.sheet.specs.Sums.{sum-from}
 use Rattle.tariff.specs.Tiered.{split-from, charges}
 use Rattle.tiers.specs.Figures.{Figures}
 
 pub figures : Figures
-unfolding rows-from sum-from split-from charges
+unfolding numbered sum-from split-from charges
 figures = record {
   first-limit-units = refl;
   first-limit = refl;

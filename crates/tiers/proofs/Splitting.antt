@@ -16,7 +16,7 @@ use Rattle.tariff.specs.Faults.{units-of}
 use Rattle.tariff.specs.Tiered.{limit, share, split-from, split, charges}
 use Rattle.tariff.specs.declared.band.Band.{Band}
 use Rattle.tariff.specs.declared.band.Share.{Share}
-use Rattle.tiers.specs.Lawful.{may-follow, may-end, rises, lowest, lawful}
+use Rattle.tariff.specs.Table.{may-follow, may-end, rises, lowest, lawful-table}
 use Rattle.tiers.proofs.Climbing.{Climbs}
 
 -- what a read past the end of a table would give
@@ -35,40 +35,40 @@ pub rises-end : (a : Band) (bands : List Band) (last i : ℕ) → length bands �
 unfolding rises
 rises-end a bands last i past = at-drop-all (λ l. rises a l last) bands i past
 
-pub lawful-is : (bands : List Band) (last : ℕ) (t : Bool) → length bands ≤ 5 → t ≡ rises lowest bands last → t ≡ lawful bands last
+pub lawful-is : (bands : List Band) (last : ℕ) (t : Bool) → length bands ≤ 5 → t ≡ rises lowest bands last → t ≡ lawful-table bands last
 lawful-is bands last t few e = e ∙ sym (ap (λ u. u && rises lowest bands last) (le-leb (length bands) 5 few))
 
 -- ---- the split
 
--- the shares of the first i tiers are written, and those of the others follow from `below`
-pub record Splits (rows : List Row) (bands : List Band) (last below i : ℕ) (shares : List Share) : Type 0 where
+-- the shares of the first i tiers are written, and those of the others follow from `before`
+pub record Splits (rows : List Row) (bands : List Band) (last before i : ℕ) (shares : List Share) : Type 0 where
   pub sized : length shares ≡ 6
-  pub so-far : take i shares ++ split-from below (drop i bands) last rows ≡ split bands last rows
-  pub climbs : Climbs rows below (drop i bands)
+  pub so-far : take i shares ++ split-from before (drop i bands) last rows ≡ split bands last rows
+  pub climbs : Climbs rows before (drop i bands)
 
 pub none-split : (rows : List Row) (bands : List Band) (last : ℕ) (shares : List Share) → length shares ≡ 6 → Climbs rows 0 bands → Splits rows bands last 0 0 shares
 none-split rows bands last shares six c = record { sized = six; so-far = refl; climbs = c }
 
 -- the tier at i
-pub climbs-at : (rows : List Row) (bands : List Band) (below i : ℕ) → i < length bands → Climbs rows below (drop i bands)
-    → Climbs rows below (getD bands i no-band ∷ drop (i + 1) bands)
-climbs-at rows bands below i within c = subst (λ l. Climbs rows below l) (drop-more bands i no-band within) c
+pub climbs-at : (rows : List Row) (bands : List Band) (before i : ℕ) → i < length bands → Climbs rows before (drop i bands)
+    → Climbs rows before (getD bands i no-band ∷ drop (i + 1) bands)
+climbs-at rows bands before i within c = subst (λ l. Climbs rows before l) (drop-more bands i no-band within) c
 
 -- one tier more
-pub split-more : (rows : List Row) (bands : List Band) (last below reach i : ℕ) (shares : List Share) (s : Share)
+pub split-more : (rows : List Row) (bands : List Band) (last before reach i : ℕ) (shares : List Share) (s : Share)
     → i < length bands → i < 6 → reach ≡ limit (getD bands i no-band) rows
-    → s ≡ share (getD bands i no-band .price .units) (Some (kwh-of reach)) (min (total rows) reach - min (total rows) below)
-    → Splits rows bands last below i shares → Splits rows bands last reach (i + 1) (set shares i s)
+    → s ≡ share (getD bands i no-band .price .units) (Some (kwh-of reach)) (min (total rows) reach - min (total rows) before)
+    → Splits rows bands last before i shares → Splits rows bands last reach (i + 1) (set shares i s)
 unfolding split-from
-split-more rows bands last below reach i shares s within room is priced inv =
+split-more rows bands last before reach i shares s within room is priced inv =
     let b = getD bands i no-band in
     let left = drop (i + 1) bands in
-    let here = climbs-at rows bands below i within (inv .climbs) in
-    let more : split-from below (drop i bands) last rows ≡ share (b .price .units) (Some (kwh-of (limit b rows))) (min (total rows) (limit b rows) - min (total rows) below) ∷ split-from (limit b rows) left last rows
-    = at-drop-more (λ l. split-from below l last rows) bands i no-band within in
-    let named : s ∷ split-from reach left last rows ≡ split-from below (drop i bands) last rows
+    let here = climbs-at rows bands before i within (inv .climbs) in
+    let more : split-from before (drop i bands) last rows ≡ share (b .price .units) (Some (kwh-of (limit b rows))) (min (total rows) (limit b rows) - min (total rows) before) ∷ split-from (limit b rows) left last rows
+    = at-drop-more (λ l. split-from before l last rows) bands i no-band within in
+    let named : s ∷ split-from reach left last rows ≡ split-from before (drop i bands) last rows
     = ap (λ (x : Share). x ∷ split-from reach left last rows) priced
-    ∙ ap (λ (n : ℕ). share (b .price .units) (Some (kwh-of n)) (min (total rows) n - min (total rows) below) ∷ split-from n left last rows) is ∙ sym more in
+    ∙ ap (λ (n : ℕ). share (b .price .units) (Some (kwh-of n)) (min (total rows) n - min (total rows) before) ∷ split-from n left last rows) is ∙ sym more in
     record {
       sized = length-set shares i s ∙ inv .sized;
       so-far = ap (λ l. l ++ split-from reach left last rows) (take-more-set shares i s (omega (arith, inv .sized)))
@@ -78,13 +78,13 @@ split-more rows bands last below reach i shares s within room is priced inv =
     }
 
 -- the last tier
-pub split-last : (rows : List Row) (bands : List Band) (last below i : ℕ) (shares : List Share) (s : Share)
-    → i ≡ length bands → i < 6 → s ≡ share last None (total rows - min (total rows) below)
-    → Splits rows bands last below i shares → take (i + 1) (set shares i s) ≡ split bands last rows
+pub split-last : (rows : List Row) (bands : List Band) (last before i : ℕ) (shares : List Share) (s : Share)
+    → i ≡ length bands → i < 6 → s ≡ share last None (total rows - min (total rows) before)
+    → Splits rows bands last before i shares → take (i + 1) (set shares i s) ≡ split bands last rows
 unfolding split-from
-split-last rows bands last below i shares s end room priced inv =
-    let tail : split-from below (drop i bands) last rows ≡ share last None (total rows - min (total rows) below) ∷ []
-    = at-drop-all (λ l. split-from below l last rows) bands i (omega arith) in
+split-last rows bands last before i shares s end room priced inv =
+    let tail : split-from before (drop i bands) last rows ≡ share last None (total rows - min (total rows) before) ∷ []
+    = at-drop-all (λ l. split-from before l last rows) bands i (omega arith) in
     take-more-set shares i s (omega (arith, inv .sized))
     ∙ ap (λ (x : Share). take i shares ++ x ∷ []) priced
     ∙ ap (λ l. take i shares ++ l) (sym tail) ∙ inv .so-far

@@ -1,4 +1,3 @@
-pub mod Lawful
 pub mod Tables
 pub mod Splits
 pub mod Published

@@ -13,8 +13,11 @@ abbrev pub changes : (rise ordinary heating : ℕ) → Changes
 changes u o h = record { rise = units-of u; ordinary = units-of o; heating = units-of h }
 
 -- Shandong's tiers but the last, and the last price
+abbrev pub shandong-first : Band
+shandong-first = band 5469 210 310
+
 abbrev pub shandong-bands : List Band
-shandong-bands = band 5469 210 310 ∷ band 5969 400 400 ∷ []
+shandong-bands = shandong-first ∷ band 5969 400 400 ∷ []
 
 abbrev pub shandong-last : ℕ
 shandong-last = 8469

@@ -69,7 +69,7 @@ pub fn shared_meters() -> Flat
     }
 }
 
-/// The price of chargers: that of shared meters under a time of use of its own.
+/// The price of chargers: that of shared meters under a time of use of their own.
 pub fn chargers() -> TimeOfUse<Flat>
     ensures price { λ r. ⌜ r .below .price .units ≡ values.shared ⌝ }
     ensures changes { λ r. ⌜ r .changes ≡ values.charger-changes ⌝ }

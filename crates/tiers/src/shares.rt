@@ -1,7 +1,7 @@
 //! What the tiers of a table take of a year, tier by tier.
 ghost use mathlib.Core.Path.{_≡_};
 ghost use Prim.Native.Nat.{_≤_};
-ghost use lib.ListN.{length, take};
+ghost use lib.ListN.{length};
 use tariff::band::Share;
 
 /// The share of each tier, the last included: at most six, of which the first `count` are in use.
@@ -11,13 +11,4 @@ pub struct Split {
     pub(crate) count: usize,
     ghost six: { length shares ≡ 6 },
     ghost few: { count ≤ 6 },
-}
-
-impl Split {
-    /// The share of each tier, the first tier first.
-    pub fn shares(&self) -> &[Share]
-        ensures { λ r. ⌜ now r ≡ take (now (self .entry) .count) (now (self .entry) .shares) ⌝ }
-    {
-        &self.shares[0..self.count]
-    }
 }

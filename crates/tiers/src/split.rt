@@ -40,6 +40,15 @@ fn share(price: Units, limit: Option<Kwh>, kwh: u64) -> Share
     }
 }
 
+impl Split {
+    /// The share of each tier, the first tier first.
+    pub fn shares(&self) -> &[Share]
+        ensures { λ r. ⌜ now r ≡ shares-of (now (self .entry)) ⌝ }
+    {
+        &self.shares[0..self.count]
+    }
+}
+
 impl Tiers {
     /// What each tier takes of the sheet's kWh, and what that costs; all together they take all of it.
     pub fn split(&self, sheet: &Sheet) -> Split
@@ -50,15 +59,15 @@ impl Tiers {
         let total = sums.total.kwh;
         let bands = self.bands();
         let mut shares = [share(Units { units: 0 }, None, 0); 6];
-        let mut below = 0;
+        let mut before = 0;
         for (i, band) in bands.iter().enumerate() {
             let reach = limit(band, &sums);
-            let takes = total.min(reach) - total.min(below);
+            let takes = total.min(reach) - total.min(before);
             shares[i] = share(band.price, Some(Kwh { kwh: reach }), takes);
-            below = reach;
+            before = reach;
         }
         let count = bands.len();
-        shares[count] = share(self.last, None, total - total.min(below));
+        shares[count] = share(self.last, None, total - total.min(before));
         Split {
             shares,
             count: count + 1,

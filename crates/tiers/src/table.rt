@@ -3,7 +3,7 @@ ghost use mathlib.Core.Path.{_≡_};
 ghost use mathlib.Core.Bool.{true};
 ghost use Prim.Native.Nat.{_≤_};
 ghost use lib.ListN.{length, take};
-ghost use Rattle.tiers.specs.Lawful.{lawful};
+ghost use Rattle.tariff.specs.Table.{lawful-table};
 use sheet::quantity::Units;
 use tariff::band::Band;
 
@@ -15,5 +15,5 @@ pub struct Tiers {
     pub(crate) last: Units,
     ghost five: { length bands ≡ 5 },
     ghost few: { count ≤ 5 },
-    ghost kept: { lawful (take count bands) (last .units) ≡ true },
+    ghost kept: { lawful-table (take count bands) (last .units) ≡ true },
 }

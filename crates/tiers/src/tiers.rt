@@ -2,11 +2,8 @@
 ghost use mathlib.Core.Path.{_≡_};
 ghost use Prim.Native.Nat.{_≤_};
 ghost use lib.ListN.{length, take};
-ghost use Rattle.std.specs.Vec.{made};
 ghost use Rattle.tariff.specs.Faults.{granted, lawful-or};
-ghost use Rattle.tariff.specs.Plain.{Plain, Alike};
-ghost use Rattle.tariff.specs.Tiered.{tier-rate, first-price};
-ghost use Rattle.tiers.specs.Lawful as rules;
+ghost use Rattle.tariff.specs.Table as rules;
 ghost use Rattle.tiers.specs.Tables.{bands-of, rate-of};
 use crate::table::Tiers;
 use sheet::quantity::Kwh;
@@ -14,13 +11,13 @@ use sheet::quantity::Units;
 use sheet::sheet::Sheet;
 use tariff::band::Band;
 use tariff::fault::TariffFault;
+use tariff::flat::is_price;
 use tariff::tariff::Tariff;
 
 fn in_range(band: &Band) -> bool
     ensures { λ r. ⌜ r ≡ rules.in-range (now (band .entry)) ⌝ }
 {
-    1 <= band.price.units
-        && band.price.units <= 20_000
+    is_price(band.price)
         && 1 <= band.ordinary.kwh
         && band.ordinary.kwh <= band.multi.kwh
         && band.multi.kwh <= 10_000
@@ -43,7 +40,7 @@ fn may_follow(before: &Band, band: &Band) -> bool
 fn may_end(before: &Band, last: Units) -> bool
     ensures { λ r. ⌜ r ≡ rules.may-end (now (before .entry)) (last .units) ⌝ }
 {
-    1 <= last.units && last.units <= 20_000 && before.price.units <= last.units
+    is_price(last) && before.price.units <= last.units
 }
 
 fn lowest() -> Band
@@ -58,7 +55,7 @@ fn lowest() -> Band
 
 /// Whether tiers but the last, and the price of the last, keep the rules of a tier table.
 pub fn is_lawful(bands: &[Band], last: Units) -> bool
-    ensures { λ r. ⌜ r ≡ rules.lawful (now (bands .entry)) (last .units) ⌝ }
+    ensures { λ r. ⌜ r ≡ rules.lawful-table (now (bands .entry)) (last .units) ⌝ }
 {
     if bands.len() > 5 {
         return false;
@@ -88,10 +85,8 @@ fn copied(bands: &[Band]) -> [Band; 5]
 impl Tiers {
     /// The table of these tiers but the last, and the price of the last; refused where it breaks a rule.
     pub fn new(bands: &[Band], last: Units) -> Result<Tiers, TariffFault>
-        ensures bands { λ r. ⌜ granted bands-of r ≡ lawful-or (rules.lawful (now (bands .entry)) (last .units)) (now (bands .entry)) ⌝ }
-        ensures last { λ r. ⌜ granted (λ t. t .last) r ≡ lawful-or (rules.lawful (now (bands .entry)) (last .units)) last ⌝ }
-        ensures plain { λ r. ⌜ made r (λ t. Plain (rate-of t)) ⌝ }
-        ensures alike { λ r. ⌜ made r (λ t. Alike (rate-of t)) ⌝ }
+        ensures bands { λ r. ⌜ granted bands-of r ≡ lawful-or (rules.lawful-table (now (bands .entry)) (last .units)) (now (bands .entry)) ⌝ }
+        ensures last { λ r. ⌜ granted (λ t. t .last) r ≡ lawful-or (rules.lawful-table (now (bands .entry)) (last .units)) last ⌝ }
     {
         if !is_lawful(bands, last) {
             return Err(TariffFault::Unlawful);
@@ -113,6 +108,8 @@ impl Tiers {
 
 pub impl Tariff for Tiers as TiersTariff {
     ghost rate = { rate-of };
+
+    ghost plain = { λ _. Unit {0} };
 
     fn cheapest(&self) -> Units {
         match self.bands() {

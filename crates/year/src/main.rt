@@ -1,29 +1,30 @@
 //! Rates one household's year by Shandong's tiers: `year KWH1 .. KWH12 [MONTH]`, the kWh of each month and, if the
-//! household is multi-person, the month from which it is. Prints the bill line by line.
+//! household is multi-person, the month from which it is. Prints the bill.
+use bill::arguments::household;
 use bill::bill::Bill;
-use bill::line::ArgumentFaultDisplay;
-use bill::line::LineDisplay;
-use bill::words::household;
+use bill::texts::ArgumentFaultError;
+use bill::texts::BillDisplay;
 use std::env;
 use std::error::AnyError;
 
-fn main(rt: LibcRuntime) -> Result<(), AnyError> {
-    let words: Vec<String> = env::args(&rt)?.skip(1).collect(rt.alloc())?;
-    let year = match household(words.as_slice()) {
-        Ok(year) => year,
-        Err(fault) => {
-            eprintln!(rt, "year: {fault}")?;
-            return Err("bad arguments".into());
-        }
+fn run(rt: &LibcRuntime) -> Result<(), AnyError> {
+    let Ok(arguments) = env::args(rt) else {
+        return Err("the arguments cannot be read as UTF-8 text".into());
     };
-    // The words' limits leave no month above that of a row.
+    let arguments: Vec<String> = arguments.skip(1).collect(rt.alloc())?;
+    let year = household(arguments.as_slice())?;
+    // Cannot fail: `household` takes no month above 999,999 kWh.
     let Some(bill) = Bill::new(&year) else {
         return Err("a month has more than 999999 kWh".into());
     };
-    for k in 0..bill.len() {
-        if let Some(line) = bill.line(k) {
-            println!(rt, "{line}")?;
-        }
-    }
+    print!(rt, "{bill}")?;
     Ok(())
+}
+
+fn main(rt: LibcRuntime) -> Result<(), AnyError> {
+    let result = run(&rt);
+    if let Err(error) = &result {
+        eprintln!(rt, "year: {error}")?;
+    }
+    result
 }

@@ -3,7 +3,7 @@ use mathlib.Core.Bool.{true}
 use mathlib.Core.List.{List, [], _∷_}
 use mathlib.Core.Path.{_≡_, refl, ap₂, _∙_}
 use Rattle.tariff.specs.declared.band.Band.{Band}
-use Rattle.tiers.specs.Lawful.{rises, lowest}
+use Rattle.tariff.specs.Table.{rises, lowest}
 use Rattle.tiers.specs.Published.{shandong-bands, shandong-last}
 use Rattle.tiers.proofs.Figured.{figures}
 use Rattle.tiers.proofs.published.shandong.Needs as need

@@ -1,7 +1,7 @@
 use native.Mathlib.Omega.{arith}
 use mathlib.Core.Path.{_≡_, sym, ap, _∙_}
 use mathlib.Core.Bool.{true, false}
-use Rattle.tiers.specs.Lawful.{rises}
+use Rattle.tariff.specs.Table.{rises}
 use Rattle.tiers.proofs.Splitting.{rises-more, rises-end, lawful-is}
 use Rattle.tiers.proofs.tiers.is_lawful.Needs as need
 

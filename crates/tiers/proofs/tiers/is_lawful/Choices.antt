@@ -1,6 +1,6 @@
 use mathlib.Core.Path.{_≡_}
 use lib.ListN.{drop}
-use Rattle.tiers.specs.Lawful.{rises, lowest}
+use Rattle.tariff.specs.Table.{rises, lowest}
 use Rattle.tiers.proofs.tiers.is_lawful.Given as given
 
 abbrev pub Inv-loop-band : given.InvT-loop-band

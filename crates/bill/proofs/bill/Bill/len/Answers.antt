@@ -2,8 +2,9 @@ use native.Mathlib.Omega.{arith}
 use mathlib.Core.List.{List, [], _∷_}
 use mathlib.Core.Path.{ap, _∙_}
 use lib.ListN.{length, length-append}
+use Rattle.sheet.specs.Rows.{numbered}
 use Rattle.tariff.specs.declared.band.Share.{Share}
-use Rattle.bill.specs.Lines.{numbered, month-line, end-lines, sum-line}
+use Rattle.bill.specs.Lines.{month-line, end-lines, sum-line}
 use Rattle.bill.specs.Shandong.{shares}
 use Rattle.bill.specs.declared.lines.Line.the-variants.{Total, Tier}
 use Rattle.bill.proofs.Listed.{length-numbered}

@@ -1,6 +1,8 @@
 use native.Mathlib.Omega.{arith}
 use mathlib.Core.Path.{_≡_, ap, ap₂, _∙_}
 use Prim.Native.Nat.{ℕ}
+use Rattle.sheet.specs.Rows.{kwh-of}
+use Rattle.sheet.specs.declared.quantity.Kwh.{Kwh}
 use Rattle.sheet.specs.Sums.{row-peak, row-heating, row-other}
 use Rattle.sheet.proofs.Adding.{proper-of, sum-more, sum-end, timed-small}
 use Rattle.sheet.proofs.sheet.Sheet.timed.Needs as need
@@ -34,7 +36,7 @@ loop-i-again c =
     let o = sum-more row-other rows (c .loop-i .i) (omega arith) in
     (grind arith, grind arith, grind arith)
 
-triple : (a b c x y z : ℕ) → a ≡ x → b ≡ y → c ≡ z → _≡_ {A = ℕ × ℕ × ℕ} (a, b, c) (x, y, z)
+triple : (a b c x y z : ℕ) → a ≡ x → b ≡ y → c ≡ z → _≡_ {A = Kwh × Kwh × Kwh} (kwh-of a, kwh-of b, kwh-of c) (kwh-of x, kwh-of y, kwh-of z)
 triple a b c x y z p q r = cc
 
 pub returns : need.returns

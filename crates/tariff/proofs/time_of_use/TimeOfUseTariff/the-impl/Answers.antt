@@ -4,9 +4,18 @@ use native.Mathlib.Omega.{arith}
 use mathlib.Core.Path.{_≡_}
 use Rattle.sheet.specs.Sums.{total, timed-peak, timed-heating, timed-other}
 use Rattle.sheet.proofs.Adding.{timed-in-total}
+use borrow.Author.Needs.{needs}
 use Rattle.tariff.specs.Layer.{used}
+use Rattle.tariff.specs.Plain.{layer}
+use Rattle.tariff.proofs.SameCharge.{layer-alike}
 use Rattle.tariff.proofs.Layered.{cuts-le, floor-kept, ceiling-kept, nothing-kept}
 use Rattle.tariff.proofs.time_of_use.TimeOfUseTariff.the-impl.Needs as need
+
+pub plainly-law : need.plainly-law
+plainly-law g t below = layer (g .T·Tariff .rate (t .below)) (t .changes) (search needs) (g .T·Tariff·met .plainly (t .below) below)
+
+pub alike-law : need.alike-law
+alike-law g t below = layer-alike (g .T·Tariff .rate (t .below)) (t .changes) (g .T·Tariff·met .alike (t .below) below)
 
 pub lawful-law : need.lawful-law
 lawful-law g t =
