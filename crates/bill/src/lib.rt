@@ -3,5 +3,6 @@ pub mod arguments;
 pub mod bill;
 pub mod household;
 pub mod lines;
+pub mod messages;
 pub mod rating;
 pub mod texts;

@@ -1,15 +1,12 @@
-//! How the lines of a bill, and what is wrong with arguments, are printed.
+//! How a bill and its lines are printed.
 ghost use Rattle.std.specs.declared.option.Option.the-variants.{Some};
 ghost use Rattle.bill.specs.Lines.{lines};
 ghost use Rattle.bill.specs.Texts as texts;
 use crate::bill::Bill;
-use crate::household::ArgumentFault;
-use crate::household::ArgumentFaultDebug;
 use crate::lines::Line;
 use sheet::quantity::Fen;
 use sheet::quantity::Kwh;
 use sheet::quantity::Units;
-use std::error::Error;
 use std::fmt;
 
 /// Units as yuan, with four decimals.
@@ -101,35 +98,6 @@ pub impl fmt::Display for Line as LineDisplay {
         }
     }
 }
-
-pub impl fmt::Display for ArgumentFault as ArgumentFaultDisplay {
-    ghost shown = { λ e. Some (texts.message e) };
-
-    fn fmt<W: fmt::Write>(&self, f: &mut fmt::Formatter<W>) -> fmt::Result {
-        match *self {
-            ArgumentFault::Count { given } => {
-                write!(
-                    f,
-                    "expected the kWh of 12 months, and perhaps a month: 12 or 13 arguments, not {given}"
-                )
-            }
-            ArgumentFault::Kwh { month } => {
-                write!(
-                    f,
-                    "argument {month}: the kWh of month {month} must be a whole number from 0 to 999999"
-                )
-            }
-            ArgumentFault::Month => {
-                write!(
-                    f,
-                    "argument 13: the month from which the household is multi-person must be a whole number from 1 to 12"
-                )
-            }
-        }
-    }
-}
-
-pub impl Error for ArgumentFault as ArgumentFaultError {}
 
 pub impl fmt::Display for Bill as BillDisplay {
     ghost shown = { λ b. Some (texts.page (lines (b .sheet .rows))) };

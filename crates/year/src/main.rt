@@ -2,7 +2,7 @@
 //! household is multi-person, the month from which it is. Prints the bill.
 use bill::arguments::household;
 use bill::bill::Bill;
-use bill::texts::ArgumentFaultError;
+use bill::messages::ArgumentFaultError;
 use bill::texts::BillDisplay;
 use std::env;
 use std::error::AnyError;

@@ -1,7 +1,7 @@
 //! The arguments of the program `year`: what is understood, and what is said of the others.
 use bill::arguments::household;
 use bill::bill::Bill;
-use bill::texts::ArgumentFaultDisplay;
+use bill::messages::ArgumentFaultDisplay;
 use bill::texts::LineDisplay;
 use std::alloc::AllocError;
 use std::alloc::Global;
