@@ -1,4 +1,7 @@
 //! One household's year, rated by Shandong's tiers and explained line by line.
+
+#![tactic(auto)]
+
 pub mod arguments;
 pub mod bill;
 pub mod household;

@@ -75,7 +75,7 @@ impl<'a> Ledger for ChainedLedger<'a> {
 
     fn largest() -> u64
         ensures top { result ≡ 200 }
-        ensures* constant { do ⌜ result ≡ (← (⟦<ChainedLedger<'_> as Ledger>::GREATEST⟧).exit) ⌝ }
+        ensures constant { result ≡ ChainedLedger.GREATEST }
     {
         Self::GREATEST
     }

@@ -1,5 +1,7 @@
 //! What every refusal tells: its number, the layer it comes from and its place.
 
+#![tactic(auto)]
+
 /// The layer that a refusal comes from.
 #[derive(Clone, Copy, PartialEq, Eq, Debug)]
 pub enum Layer {

@@ -50,11 +50,13 @@ pub blank_rows : (n free : ℕ) → meant (replicate n None) free ≡ blank free
 blank_rows n free = same_book (fun_ext (λ k. ap is_some (none_row n k))) (fun_ext (λ k. ap count_of (none_row n k))) (fun_ext (λ k. ap sum_of (none_row n k))) refl
 
 -- what the rows keep to, as the check asks for it
-abbrev pub Facts : ℕ → Rows → ℕ → Type 0
-Facts N rows free = (length rows ≡ N) × ((sum_by count_of rows + free ≤ line_limit) × (((k : ℕ) → Bounded (get_or rows k None)) × Unit {0}))
+pub record Facts (N : ℕ) (rows : Rows) (free : ℕ) : Type 0 where
+  pub sized : length rows ≡ N
+  pub room : sum_by count_of rows + free ≤ line_limit
+  pub bounded : (k : ℕ) → Bounded (get_or rows k None)
 
 pub facts_of : {N : ℕ} (x : Balances N) → Facts N x.rows x.free
-facts_of x = (x.sized, (x.room, (x.bounded, tt)))
+facts_of x = record { sized = x.sized; room = x.room; bounded = x.bounded }
 
 -- a fact of every row lasts where it holds of the new one
 each_set : (P : Option Balance → Type 0) (rows : Rows) (i : ℕ) (y : Option Balance) → i < length rows → P y → ((k : ℕ) → P (get_or rows k None)) → (k : ℕ) → P (get_or (set rows i y) k None)
@@ -67,7 +69,11 @@ each_set P rows i y h here all k =
 kept_set : (N : ℕ) (rows : Rows) (i free free' : ℕ) (y : Option Balance) → Facts N rows free → i < N → count_of y + free' ≤ count_of (get_or rows i None) + free → Bounded y → Facts N (set rows i y) free'
 kept_set N rows i free free' y k lt grows b =
     let l : i < length rows = omega arith in
-    (length-set rows i y ∙ k.0, (omega (arith, sum_by-set count_of rows i y None l), (each_set Bounded rows i y l b k.1.1.0, tt)))
+    record {
+      sized = length-set rows i y ∙ k.sized;
+      room = omega (arith, sum_by-set count_of rows i y None l);
+      bounded = each_set Bounded rows i y l b k.bounded;
+    }
 
 -- all that a granted enrolment leaves
 abbrev empty : Balance
@@ -110,7 +116,7 @@ module _ (rows : Rows) (N free : ℕ) (p : Posting) (old : Balance) (kept : Fact
       let lt : p.number - 1 < length rows = let h = add_lt in omega arith in
       let c : old.count ≡ count_of (get_or rows (p.number - 1) None) = sym (ap count_of add_row) in
       let some = add_granted.some in
-      (omega (arith, get_or-le-sum_by count_of rows (p.number - 1) None lt), subst Bounded add_row (kept.1.1.0 (p.number - 1)))
+      (omega (arith, get_or-le-sum_by count_of rows (p.number - 1) None lt), subst Bounded add_row (kept.bounded (p.number - 1)))
 
   pub add_kept : Facts N (set rows (p.number - 1) (Some (grown old (amount p)))) (free - 1)
   add_kept =

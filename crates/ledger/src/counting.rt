@@ -47,7 +47,7 @@ impl Ledger for CountingLedger {
 
     fn largest() -> u64
         ensures top { result ≡ 64 }
-        ensures* constant { do ⌜ result ≡ (← (⟦<CountingLedger as Ledger>::GREATEST⟧).exit) ⌝ }
+        ensures constant { result ≡ CountingLedger.GREATEST }
     {
         Self::GREATEST
     }

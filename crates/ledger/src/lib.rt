@@ -1,4 +1,7 @@
 //! What every ledger means and shows; counts and sums, written once; a ledger of counts and sums alone.
+
+#![tactic(auto)]
+
 pub mod balance;
 pub mod balances;
 pub mod balancing;

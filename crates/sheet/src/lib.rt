@@ -1,4 +1,7 @@
 //! Quantities, and the sheet of a year: twelve months of marks and kWh.
+
+#![tactic(auto)]
+
 pub mod quantity;
 pub mod row;
 pub mod rows;

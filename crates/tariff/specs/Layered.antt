@@ -1,6 +1,6 @@
 -- What the layer keeps of the tariff below it, in numbers alone.
-use Rattle.std.specs.Prelude.{◌≡◌, ℕ, ◌+◌, ◌-◌, ◌*◌, ◌<◌, ◌≤◌, min, max, refl}
-use Rattle.std.proofs.Common.{arith, add-mul, mul-add, mul-le-mul, mul-le-mul_left, mul-le-mul_right, sym, ap, ◌∙◌}
+use Rattle.std.specs.Prelude.{◌≡◌, ℕ, ◌+◌, ◌-◌, ◌*◌, ◌≤◌, min}
+use Rattle.std.proofs.Common.{arith, add-mul, mul-add, mul-le-mul, mul-le-mul_left, mul-le-mul_right, ap}
 
 -- two cuts, neither above m, for two parts of t kWh
 pub cuts_le : (u v m a b t : ℕ) → u ≤ m → v ≤ m → a + b ≤ t → u * a + v * b ≤ m * t

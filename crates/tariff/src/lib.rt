@@ -1,4 +1,7 @@
 //! What every tariff means and shows; a flat price; time of use over any tariff.
+
+#![tactic(auto)]
+
 pub mod band;
 pub mod changes;
 pub mod fault;

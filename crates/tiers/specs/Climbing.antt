@@ -1,5 +1,5 @@
 -- What a lawful tier table keeps to: prices and limits that never fall.
-use Rattle.std.specs.Prelude.{◌≡◌, ℕ, ◌+◌, ◌-◌, ◌*◌, ◌<◌, ◌≤◌, min, Bool, true, false, cond, ◌&&◌, List, [], ◌∷◌, length, nat_le}
+use Rattle.std.specs.Prelude.{◌≡◌, ℕ, ◌+◌, ◌-◌, ◌*◌, ◌≤◌, Bool, true, false, cond, List, [], ◌∷◌, length, nat_le}
 use Rattle.std.proofs.Common.{arith, add-mul, mul_comm, ap}
 use Rattle.std.proofs.lemmas.Bool.{and_parts, leb-true}
 use Rattle.sheet.specs.Sums.{sum_from, counted_months, multi_months, six_sums}
@@ -10,7 +10,7 @@ use Rattle.tariff.specs.Flat.{is_price}
 use Rattle.tariff.specs.Tiered.{row_standard, limit, first_price}
 use Rattle.tariff.specs.declared.band.Band.{Band}
 use Rattle.tariff.specs.SameCharge.{limit_by_months}
-use Rattle.tariff.specs.Table.{in_range, not_below, may_follow, may_end, rises, lowest, lawful_table}
+use Rattle.tariff.specs.Table.{in_range, not_below, may_follow, rises, lowest, lawful_table}
 
 -- one tier of a rising table
 pub record Step (a b : Band) (bs : List Band) (last : ℕ) : Type 0 where

@@ -1,5 +1,8 @@
 //! Rates one household's year by Shandong's tiers: `year KWH1 .. KWH12 [MONTH]`, the kWh of each month and, if the
 //! household is multi-person, the month from which it is. Prints the bill.
+
+#![tactic(auto)]
+
 use anyhow::anyhow;
 use bill::arguments::household;
 use bill::bill::Bill;

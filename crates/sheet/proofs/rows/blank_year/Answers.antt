@@ -1,4 +1,4 @@
-use Rattle.std.proofs.Common.{◌≡◌, suc, ◌+◌, length, replicate, sym, refl, ap, ◌∙◌, subst, arith, length-set}
+use Rattle.std.proofs.Common.{replicate, sym, refl, ap, ◌∙◌, subst, arith, length-set}
 use Rattle.sheet.specs.Rows.{blank_row}
 use Rattle.sheet.specs.declared.row.Row.{Row}
 use Rattle.sheet.proofs.Changing.{Changed, unchanged, set_one, all_changed, by_month}

@@ -1,4 +1,4 @@
-use Rattle.std.proofs.Common.{◌≡◌, true, List, [], ◌∷◌, refl, ◌∙◌, ap₂, arith}
+use Rattle.std.proofs.Common.{◌≡◌, true, [], ◌∷◌, refl, ◌∙◌, ap₂, arith}
 use Rattle.tariff.specs.declared.band.Band.{Band}
 use Rattle.tariff.specs.Table.{rises, lowest}
 use Rattle.tiers.specs.Published.{shandong_bands, shandong_last}
@@ -9,9 +9,13 @@ shandong_rises : rises lowest shandong_bands shandong_last ≡ true
 unfolding rises
 shandong_rises = refl
 
-pub invariant-of-result : goal.invariant-of-result
-invariant-of-result c =
-    (refl, (omega arith, (ap₂ (λ (a : Band) (b : Band). rises lowest (a ∷ b ∷ []) 8469) c.band.ensures c.band-second.ensures ∙ shandong_rises, tt)))
+pub invariant_of-result : goal.invariant_of-result
+invariant_of-result c =
+    record {
+      five = refl;
+      few = omega arith;
+      kept = ap₂ (λ (a : Band) (b : Band). rises lowest (a ∷ b ∷ []) 8469) c.band.ensures c.band-second.ensures ∙ shandong_rises;
+    }
 
 pub returns : goal.returns
 returns c = record {

@@ -13,20 +13,22 @@ grown-new-requires g c =
     let b = add_old t.rows g.row.N t.free p c.unwrap-old.result (facts_of t) c.requires (sym c.unwrap-old.ensures ∙ c.balance.ensures.row) in
     record { few = b.0; bounded = b.1; payable = (granted g.row.N (book_of t) p c.requires).small }
 
-pub one-fewer-self-requires : goal.one-fewer-self-requires
-one-fewer-self-requires g c = (granted g.row.N (book_of c.args.self.now) c.args.posting c.requires).some
+pub one_fewer-self-requires : goal.one_fewer-self-requires
+one_fewer-self-requires g c = (granted g.row.N (book_of c.args.self.now) c.args.posting c.requires).some
 
-pub invariant-of-self : goal.invariant-of-self
-invariant-of-self g c =
+pub invariant_of-self : goal.invariant_of-self
+invariant_of-self g c =
     let t = c.args.self.now in
     let p = c.args.posting in
     let kept = add_kept t.rows g.row.N t.free p c.unwrap-old.result (facts_of t) c.requires (sym c.unwrap-old.ensures ∙ c.balance.ensures.row) in
-    subst (λ (n : ℕ). Facts g.row.N (set t.rows (p.number - 1) (Some c.grown-new.result)) n) (sym c.one-fewer-self.ensures)
-    (subst (λ (x : Balance). Facts g.row.N (set t.rows (p.number - 1) (Some x)) (t.free - 1)) (sym c.grown-new.ensures) kept)
+    let k : Facts g.row.N (set t.rows (p.number - 1) (Some c.grown-new.result)) c.one_fewer-self.result =
+        subst (λ (n : ℕ). Facts g.row.N (set t.rows (p.number - 1) (Some c.grown-new.result)) n) (sym c.one_fewer-self.ensures)
+        (subst (λ (x : Balance). Facts g.row.N (set t.rows (p.number - 1) (Some x)) (t.free - 1)) (sym c.grown-new.ensures) kept) in
+    record { sized = k.sized; room = k.room; bounded = k.bounded }
 
 pub returns : goal.returns
 returns g c =
     let t = c.args.self.now in
     let p = c.args.posting in
-    ap₂ (λ (x : Balance) (n : ℕ). meant (set t.rows (p.number - 1) (Some x)) n) c.grown-new.ensures c.one-fewer-self.ensures
+    ap₂ (λ (x : Balance) (n : ℕ). meant (set t.rows (p.number - 1) (Some x)) n) c.grown-new.ensures c.one_fewer-self.ensures
     ∙ add_after t.rows g.row.N t.free p c.unwrap-old.result (facts_of t) c.requires (sym c.unwrap-old.ensures ∙ c.balance.ensures.row)

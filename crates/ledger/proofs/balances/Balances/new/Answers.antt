@@ -6,10 +6,14 @@ use Rattle.ledger.proofs.Changed.{each_same}
 use Rattle.ledger.proofs.Rowed.{none_sum, blank_rows}
 use Rattle.ledger.proofs.balances.Balances.new.Goals as goal
 
-pub invariant-of-result : goal.invariant-of-result
-invariant-of-result g c =
+pub invariant_of-result : goal.invariant_of-result
+invariant_of-result g c =
     let m = c.min-free.ensures in
-    (length-replicate g.row.N None, (omega (arith, none_sum g.row.N), (λ k. subst Bounded (sym (each_same g.row.N k None)) (omega arith), tt)))
+    record {
+      sized = length-replicate g.row.N None;
+      room = omega (arith, none_sum g.row.N);
+      bounded = λ k. subst Bounded (sym (each_same g.row.N k None)) (omega arith);
+    }
 
 pub returns : goal.returns
 returns g c =

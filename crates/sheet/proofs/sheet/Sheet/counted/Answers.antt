@@ -3,15 +3,15 @@ use Rattle.sheet.specs.Sums.{row_counted, row_multi}
 use Rattle.sheet.proofs.Adding.{proper_of, sum_more, sum_end, counted_small, multi_among_counted}
 use Rattle.sheet.proofs.sheet.Sheet.counted.Goals as goal
 
-pub overflow-add-counted : goal.overflow-add-counted
-overflow-add-counted c =
+pub overflow_add-counted : goal.overflow_add-counted
+overflow_add-counted c =
     let rows = c.args.self.now.rows in
     let few = counted_small rows (proper_of c.args.self.now) in
     let o = sum_more row_counted rows c.loop-row.row-index (omega arith) in
     grind arith
 
-pub overflow-add-multi : goal.overflow-add-multi
-overflow-add-multi c =
+pub overflow_add-multi : goal.overflow_add-multi
+overflow_add-multi c =
     let rows = c.args.self.now.rows in
     let few = counted_small rows (proper_of c.args.self.now) in
     let among = multi_among_counted rows in

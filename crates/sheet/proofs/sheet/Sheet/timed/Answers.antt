@@ -1,26 +1,26 @@
-use Rattle.std.proofs.Common.{◌≡◌, ℕ, ap, ◌∙◌, ap₂, arith}
+use Rattle.std.proofs.Common.{◌≡◌, ℕ, arith}
 use Rattle.sheet.specs.Rows.{kwh_of}
 use Rattle.sheet.specs.declared.quantity.Kwh.{Kwh}
 use Rattle.sheet.specs.Sums.{row_peak, row_heating, row_other}
 use Rattle.sheet.proofs.Adding.{proper_of, sum_more, sum_end, timed_small}
 use Rattle.sheet.proofs.sheet.Sheet.timed.Goals as goal
 
-pub overflow-add-peak : goal.overflow-add-peak
-overflow-add-peak c =
+pub overflow_add-peak : goal.overflow_add-peak
+overflow_add-peak c =
     let rows = c.args.self.now.rows in
     let small = timed_small rows (proper_of c.args.self.now) in
     let p = sum_more row_peak rows c.loop-i.i (omega arith) in
     grind arith
 
-pub overflow-add-heating : goal.overflow-add-heating
-overflow-add-heating c =
+pub overflow_add-heating : goal.overflow_add-heating
+overflow_add-heating c =
     let rows = c.args.self.now.rows in
     let small = timed_small rows (proper_of c.args.self.now) in
     let h = sum_more row_heating rows c.loop-i.i (omega arith) in
     grind arith
 
-pub overflow-add-other : goal.overflow-add-other
-overflow-add-other c =
+pub overflow_add-other : goal.overflow_add-other
+overflow_add-other c =
     let rows = c.args.self.now.rows in
     let small = timed_small rows (proper_of c.args.self.now) in
     let o = sum_more row_other rows c.loop-i.i (omega arith) in

@@ -4,7 +4,7 @@ use Rattle.tiers.proofs.table.Tiers.new.Goals as goal
 
 pub returns : goal.returns
 returns c =
-    let lawful = c.if-not-is-lawful.ensures in
+    let lawful = c.if-not-is_lawful.ensures in
     record {
       bands = ap Ok c.copied.ensures.same ∙ ap (λ b. lawful_or b c.args.bands.now) lawful;
       last = ap (λ b. lawful_or b c.args.last) lawful;

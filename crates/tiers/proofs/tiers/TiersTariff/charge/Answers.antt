@@ -1,6 +1,6 @@
-use Rattle.std.proofs.Common.{◌≡◌, ◌+◌, ◌≤◌, drop, ap, ◌∙◌, arith}
+use Rattle.std.proofs.Common.{ap, ◌∙◌, arith}
 use Rattle.sheet.proofs.Adding.{proper_of}
-use Rattle.tariff.specs.Tiered.{charges, split}
+use Rattle.tariff.specs.Tiered.{charges}
 use Rattle.tariff.proofs.Answered.{answers}
 use Rattle.tiers.specs.Tables.{bands_of, rate_of}
 use Rattle.tiers.specs.Climbing.{table_prices}
@@ -8,8 +8,8 @@ use Rattle.tiers.proofs.Splitting.{charges_more, charges_end}
 use Rattle.tiers.specs.Tabled.{table_small}
 use Rattle.tiers.proofs.tiers.TiersTariff.charge.Goals as goal
 
-pub overflow-add-sum : goal.overflow-add-sum
-overflow-add-sum c =
+pub overflow_add-sum : goal.overflow_add-sum
+overflow_add-sum c =
     let shares = c.shares-shares.result.now in
     let small = table_small c.args.sheet.now.rows (bands_of c.args.self.now) c.args.self.now.last.units (proper_of c.args.sheet.now) c.args.self.now.kept in
     let is = ap charges (c.shares-shares.ensures ∙ c.split-split.ensures.shares) in
