@@ -59,7 +59,7 @@ impl<'a> ChainedLedger<'a> {
 impl<'a> Ledger for ChainedLedger<'a> {
     const GREATEST: u64 = 200;
 
-    ghost top = { 200 };
+    ghost GREATEST = { 200 };
 
     ghost book = { lines.chained_book };
 
@@ -74,8 +74,7 @@ impl<'a> Ledger for ChainedLedger<'a> {
     ghost keeps = { λ l n m k. k.book };
 
     fn largest() -> u64
-        ensures top { result ≡ 200 }
-        ensures constant { result ≡ ChainedLedger.GREATEST }
+        ensures { result ≡ 200 }
     {
         Self::GREATEST
     }

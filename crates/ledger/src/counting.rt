@@ -30,7 +30,7 @@ impl CountingLedger {
 impl Ledger for CountingLedger {
     const GREATEST: u64 = 64;
 
-    ghost top = { 64 };
+    ghost GREATEST = { 64 };
 
     ghost book = { counting_book };
 
@@ -46,8 +46,7 @@ impl Ledger for CountingLedger {
     ghost keeps = { λ l n m k. k };
 
     fn largest() -> u64
-        ensures top { result ≡ 64 }
-        ensures constant { result ≡ CountingLedger.GREATEST }
+        ensures { result ≡ 64 }
     {
         Self::GREATEST
     }
