@@ -13,7 +13,7 @@ use sheet::rows::{blank_year, booked_in};
 use sheet::sheet::Sheet;
 use tariff::band::Band;
 use tariff::changes::Changes;
-use tariff::fault::TariffFault;
+use tariff::refusal::TariffFault;
 use tariff::tariff::Tariff;
 
 // Twelve rows with no kWh.

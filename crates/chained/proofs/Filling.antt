@@ -1,6 +1,6 @@
 -- Steps done to a chained ledger, and what its table holds after them. Assumes nothing.
 use Rattle.std.proofs.Common.{◌≡◌, ℕ, List, [], ◌∷◌, Err, sym, ap, ◌∙◌, ap₂, Bor, MutBor}
-use Rattle.ledger.specs.declared.fault.LedgerFault.{LedgerFault}
+use Rattle.ledger.specs.declared.refusal.LedgerFault.{LedgerFault}
 use Rattle.ledger.specs.declared.posting.Entry.{Entry}
 use Rattle.ledger.specs.Book.{Answer}
 use Rattle.ledger.specs.Postings.{Step, enrols, posts, Recorded, steps_of}

@@ -6,7 +6,7 @@ ghost use Rattle.chained.specs.Lines.{filled, opened_answer};
 use crate::cell::Line;
 use crate::chained::ChainedLedger;
 use ledger::both::post_both;
-use ledger::fault::LedgerFault;
+use ledger::refusal::LedgerFault;
 use ledger::ledger::Ledger;
 use ledger::posting::Posting;
 

@@ -14,7 +14,7 @@ use crate::chained::ChainedLedger;
 use crate::linking::room;
 use crate::links::Links;
 use ledger::balances::Balances;
-use ledger::fault::LedgerFault;
+use ledger::refusal::LedgerFault;
 use ledger::ledger::Ledger;
 use ledger::posting::Posting;
 use sheet::quantity::Fen;
@@ -56,7 +56,7 @@ impl<'a> ChainedLedger<'a> {
     }
 }
 
-impl<'a> Ledger for ChainedLedger<'a> {
+impl Ledger for ChainedLedger<'_> {
     const GREATEST: u64 = 200;
 
     ghost GREATEST = { 200 };

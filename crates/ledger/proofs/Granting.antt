@@ -3,8 +3,8 @@ use Rattle.std.proofs.Common.{◌≡◌, ℕ, ◌-◌, ◌<◌, ◌≤◌, Bool,
 use Rattle.std.proofs.lemmas.Bool.{leb-true}
 use Rattle.std.proofs.lemmas.Bool.Decides.{nat_tests}
 use Rattle.fault.specs.Refusals.{first}
-use Rattle.ledger.specs.declared.fault.LedgerFault.{LedgerFault}
-use Rattle.ledger.specs.declared.fault.LedgerFault.TheVariants.{Number, Amount, Full}
+use Rattle.ledger.specs.declared.refusal.LedgerFault.{LedgerFault}
+use Rattle.ledger.specs.declared.refusal.LedgerFault.TheVariants.{Number, Amount, Full}
 use Rattle.ledger.specs.declared.posting.Posting.{Posting}
 use Rattle.ledger.specs.Book.{Book, Answer, within, known, payable, amount, amount_limit, enrol_answer, post_answer, answer_about, with_line}
 use Rattle.ledger.specs.Lawful.{impossible}

@@ -1,6 +1,6 @@
 -- Steps done to a ledger one after the other. Assumes nothing.
 use Rattle.std.proofs.Common.{◌≡◌, ℕ, List, [], ◌∷◌, Ok, Err, sym, refl, ap, ◌∙◌, subst}
-use Rattle.ledger.specs.declared.fault.LedgerFault.{LedgerFault}
+use Rattle.ledger.specs.declared.refusal.LedgerFault.{LedgerFault}
 use Rattle.ledger.specs.declared.posting.Posting.{Posting}
 use Rattle.ledger.specs.Book.{Book, Answer, with_number, with_line, did}
 use Rattle.ledger.specs.Lawful.{impossible}

@@ -1,8 +1,8 @@
 -- What a ledger means, and what each of its calls answers and leaves.
 use Rattle.std.specs.Prelude.{◌≡◌, ℕ, zero, suc, ◌+◌, ◌-◌, ◌*◌, ◌≤◌, Bool, true, false, cond, not, ◌&&◌, List, [], ◌∷◌, ℤ, pos, ◌+ℤ◌, Ok, Err, Result, ◌==◌, nat_le, nat_lt, slice_index_or, unsigned_abs}
 use Rattle.fault.specs.Refusals.{first}
-use Rattle.ledger.specs.declared.fault.LedgerFault.{LedgerFault}
-use Rattle.ledger.specs.declared.fault.LedgerFault.TheVariants.{Number, Amount, Full}
+use Rattle.ledger.specs.declared.refusal.LedgerFault.{LedgerFault}
+use Rattle.ledger.specs.declared.refusal.LedgerFault.TheVariants.{Number, Amount, Full}
 use Rattle.ledger.specs.declared.posting.Posting.{Posting}
 
 -- which account numbers are enrolled, the line count and fen sum of each, and how many lines are free

@@ -3,8 +3,8 @@ use Rattle.std.specs.Prelude.{ℕ, codes, slice_index}
 use Prim.Native.String.{String}
 use Rattle.fault.specs.declared.Code.{Code}
 use Rattle.fault.specs.declared.Layer.TheVariants.{Ledger}
-use Rattle.ledger.specs.declared.fault.LedgerFault.{LedgerFault}
-use Rattle.ledger.specs.declared.fault.LedgerFault.TheVariants.{Number, Amount, Full}
+use Rattle.ledger.specs.declared.refusal.LedgerFault.{LedgerFault}
+use Rattle.ledger.specs.declared.refusal.LedgerFault.TheVariants.{Number, Amount, Full}
 use Rattle.ledger.specs.declared.posting.Cause.{Cause}
 use Rattle.ledger.specs.declared.posting.Cause.TheVariants.{Reading, Purchase, MultiPerson, TimeOfUse, Withdrawal, Payment, Settlement, Clearing}
 

@@ -1,7 +1,7 @@
 -- Numbers enrolled and lines posted one after the other, in any ledger.
 use Rattle.std.specs.Prelude.{◌≡◌, ℕ, not, ◌&&◌, List, [], ◌∷◌, Ok, Err, nat_lt}
 use Rattle.fault.specs.Refusals.{first}
-use Rattle.ledger.specs.declared.fault.LedgerFault.TheVariants.{Number, Amount, Full}
+use Rattle.ledger.specs.declared.refusal.LedgerFault.TheVariants.{Number, Amount, Full}
 use Rattle.ledger.specs.declared.posting.Posting.{Posting}
 use Rattle.ledger.specs.Book.{Book, Answer, known, payable, with_number, with_line}
 

@@ -6,8 +6,8 @@ ghost use Rattle.ledger.specs.Rows as rowed;
 
 use crate::balance::Balance;
 use crate::balances::Balances;
-use crate::fault::LedgerFault;
 use crate::posting::Posting;
+use crate::refusal::LedgerFault;
 use sheet::quantity::Fen;
 
 /// The most lines that a ledger holds, those that are free included.

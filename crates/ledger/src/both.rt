@@ -5,9 +5,9 @@ ghost use Rattle.ledger.specs.Postings as postings;
 ghost use Rattle.ledger.specs.Postings.{Step, posts};
 
 use crate::balancing::payable;
-use crate::fault::LedgerFault;
 use crate::ledger::Ledger;
 use crate::posting::Posting;
+use crate::refusal::LedgerFault;
 
 /// Whether a number is from 1 to the greatest, and enrolled.
 fn known<L: Ledger>(ledger: &L, number: u64) -> bool

@@ -5,9 +5,9 @@ ghost use Rattle.ledger.specs.Held.{counting_book};
 ghost use Rattle.ledger.specs.Lawful.{lawful_book};
 
 use crate::balances::Balances;
-use crate::fault::LedgerFault;
 use crate::ledger::Ledger;
 use crate::posting::Posting;
+use crate::refusal::LedgerFault;
 use sheet::quantity::Fen;
 
 /// Counts and sums of the numbers 1 to 64.

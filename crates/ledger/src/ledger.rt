@@ -4,8 +4,8 @@ ghost use Rattle.ledger.specs.Book.{Book, Lawful};
 ghost use Rattle.ledger.specs.Book as means;
 ghost use Rattle.ledger.specs.declared.posting.Posting.{Posting};
 
-use crate::fault::LedgerFault;
 use crate::posting::Posting;
+use crate::refusal::LedgerFault;
 use sheet::quantity::Fen;
 
 /// Anything that keeps the lines of account numbers: known by its meaning, and by what a posting does to its records.

@@ -7,6 +7,6 @@ pub mod balances;
 pub mod balancing;
 pub mod both;
 pub mod counting;
-pub mod fault;
 pub mod ledger;
 pub mod posting;
+pub mod refusal;

@@ -4,7 +4,7 @@ mod counts;
 mod pairs;
 
 use chained::cell::Line;
-use ledger::fault::LedgerFault;
+use ledger::refusal::LedgerFault;
 use ledger::ledger::Ledger;
 use ledger::posting::{Cause, Entry, Posting};
 use sheet::quantity::Fen;

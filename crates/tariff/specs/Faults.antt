@@ -5,8 +5,8 @@ use Rattle.fault.specs.declared.Layer.TheVariants.{Tariff}
 use Rattle.sheet.specs.declared.quantity.Units.{Units}
 use Rattle.sheet.specs.declared.row.Row.{Row}
 use Rattle.tariff.specs.Rate.{Rate, answer_limit}
-use Rattle.tariff.specs.declared.fault.TariffFault.{TariffFault}
-use Rattle.tariff.specs.declared.fault.TariffFault.TheVariants.{TooDear, Unlawful}
+use Rattle.tariff.specs.declared.refusal.TariffFault.{TariffFault}
+use Rattle.tariff.specs.declared.refusal.TariffFault.TheVariants.{TooDear, Unlawful}
 
 -- the number, layer and place of each
 abbrev pub code : TariffFault → Code

@@ -6,7 +6,7 @@ ghost use Rattle.std.proofs.Common.{rules, arith};
 ghost use Rattle.tariff.specs.Plain.{flat};
 ghost use Rattle.tariff.specs.SameCharge.{flat_alike};
 
-use crate::fault::TariffFault;
+use crate::refusal::TariffFault;
 use crate::tariff::Tariff;
 use sheet::quantity::Units;
 use sheet::sheet::Sheet;

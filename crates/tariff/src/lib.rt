@@ -4,7 +4,7 @@
 
 pub mod band;
 pub mod changes;
-pub mod fault;
 pub mod flat;
+pub mod refusal;
 pub mod tariff;
 pub mod time_of_use;

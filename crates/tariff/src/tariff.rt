@@ -4,7 +4,7 @@ ghost use Rattle.tariff.specs.Rate.{Rate, Lawful};
 ghost use Rattle.tariff.specs.Faults.{answer};
 ghost use Rattle.tariff.specs.Plain.{Plain, Alike};
 
-use crate::fault::TariffFault;
+use crate::refusal::TariffFault;
 use sheet::quantity::Units;
 use sheet::sheet::Sheet;
 

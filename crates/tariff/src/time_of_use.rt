@@ -11,7 +11,7 @@ ghost use Rattle.sheet.proofs.Adding.{timed_in_total};
 ghost use Rattle.tariff.specs.Layered.{cuts_le, floor_kept, ceiling_kept, nothing_kept};
 
 use crate::changes::Changes;
-use crate::fault::TariffFault;
+use crate::refusal::TariffFault;
 use crate::tariff::Tariff;
 use sheet::quantity::Units;
 use sheet::sheet::Sheet;

@@ -11,8 +11,8 @@ use crate::table::Tiers;
 use sheet::quantity::{Kwh, Units};
 use sheet::sheet::Sheet;
 use tariff::band::Band;
-use tariff::fault::TariffFault;
 use tariff::flat::is_price;
+use tariff::refusal::TariffFault;
 use tariff::tariff::Tariff;
 
 fn in_range(band: &Band) -> bool

@@ -2,7 +2,7 @@
 use super::units;
 use fault::Layer;
 use sheet::sums::is_heating;
-use tariff::fault::TariffFault;
+use tariff::refusal::TariffFault;
 
 #[test]
 fn fen_months_and_refusals(rt: HostRuntime) {

@@ -10,7 +10,7 @@ returns-in-None c =
     let i = c.loop-i.i in
     let size = length-map c.args.arguments.now string_bytes in
     let back : i ≡ i + 1 - 1 = omega arith in
-    let place = c.as-str.ensures.value ∙ argument_at string_bytes c.args.arguments.now i c.index-arguments-i.result (omega (arith, c.requires.least)) c.index-arguments-i.is
+    let place = c.as_str.ensures.value ∙ argument_at string_bytes c.args.arguments.now i c.index-arguments-i.result (omega (arith, c.requires.least)) c.index-arguments-i.is
     ∙ ap (λ k. get_or arguments k []) back in (
       omega arith,
       omega arith,
@@ -24,7 +24,7 @@ pub loop-i-preserved : goal.loop-i-preserved
 loop-i-preserved c =
     let arguments = map string_bytes c.args.arguments.now in
     let i = c.loop-i.i in
-    let place = c.as-str.ensures.value ∙ argument_at string_bytes c.args.arguments.now i c.index-arguments-i.result (omega (arith, c.requires.least)) c.index-arguments-i.is in (
+    let place = c.as_str.ensures.value ∙ argument_at string_bytes c.args.arguments.now i c.index-arguments-i.result (omega (arith, c.requires.least)) c.index-arguments-i.is in (
       months_more arguments i c.in-Some.n c.loop-i.kwh (omega (arith, c.loop-i.invariant.1)) (read_at 0 999999 _ _ (Some c.in-Some.n) place c.in-Some.ensures) c.loop-i.invariant.0,
       length-set _ _ _ ∙ c.loop-i.invariant.1,
     )

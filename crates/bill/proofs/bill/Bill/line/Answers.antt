@@ -29,4 +29,4 @@ returns-then-k-eq12 c =
     ∙ line_total c.args.self.now.sheet.rows c.args.k c.args.self.now.sheet.twelve c.if-k-eq12.true
 
 pub returns : goal.returns
-returns c = c.tier-line.ensures ∙ line_end c.args.self.now.sheet.rows c.args.k c.args.self.now.sheet.twelve (omega (arith, c.if-k-lt12.false, c.if-k-eq12.false))
+returns c = c.tier_line.ensures ∙ line_end c.args.self.now.sheet.rows c.args.k c.args.self.now.sheet.twelve (omega (arith, c.if-k-lt12.false, c.if-k-eq12.false))

@@ -7,9 +7,9 @@ use Rattle.bill.specs.declared.bill.Bill.{Bill}
 use Rattle.bill.proofs.Bought.{rows_fit}
 use Rattle.bill.proofs.bill.Bill.new.Goals as goal
 
-pub returns-in-err-sheet : goal.returns-in-err-sheet
-returns-in-err-sheet c =
-    ap (λ (o : Option Bill). option_map (λ (b : Bill). b.sheet.rows) o) c.from-residual-in-err-sheet.ensures
-    ∙ c.in-err-sheet.ensures
-    ∙ ap (λ (o : Option (List Row)). and_then o all_fitting) c.in-ok-rows.ensures
+pub returns-in_err-sheet : goal.returns-in_err-sheet
+returns-in_err-sheet c =
+    ap (λ (o : Option Bill). option_map (λ (b : Bill). b.sheet.rows) o) c.from_residual-in_err-sheet.ensures
+    ∙ c.in_err-sheet.ensures
+    ∙ ap (λ (o : Option (List Row)). and_then o all_fitting) c.in_ok-rows.ensures
     ∙ rows_fit c.args.household.now

@@ -16,7 +16,7 @@ summed u v f e is = ap (λ z. Some (Sum u (record { fen = z }))) e ∙ ap (λ (x
 
 pub returns-then-k-shares-2 : goal.returns-then-k-shares-2
 returns-then-k-shares-2 c =
-    summed _ _ _ c.to-fen.ensures c.charge-charge.ensures
+    summed _ _ _ c.to_fen.ensures c.charge-charge.ensures
     ∙ end_sum c.args.self.now.sheet.rows _ c.args.k (c.shares-shares.ensures ∙ c.split-split.ensures) c.if-k-shares-2.true
 
 pub returns : goal.returns

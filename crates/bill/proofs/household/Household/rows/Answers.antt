@@ -5,15 +5,15 @@ use Rattle.bill.proofs.Bought.{bought_more, bought_end}
 use Rattle.bill.proofs.household.Household.rows.Goals as goal
 
 pub loop-i-init : goal.loop-i-init
-loop-i-init c = ap (λ (r : List Row). bought_from 1 c.args.self.now.kwh r) c.marked-year-rows.ensures
+loop-i-init c = ap (λ (r : List Row). bought_from 1 c.args.self.now.kwh r) c.marked_year-rows.ensures
 
-pub returns-in-err-rows : goal.returns-in-err-rows
-returns-in-err-rows c =
-    c.from-residual.ensures ∙ bought_more c.args.self.now.kwh c.loop-i.i c.loop-i.rows None (omega arith) c.in-err-rows.ensures ∙ c.loop-i.invariant
+pub returns-in_err-rows : goal.returns-in_err-rows
+returns-in_err-rows c =
+    c.from_residual.ensures ∙ bought_more c.args.self.now.kwh c.loop-i.i c.loop-i.rows None (omega arith) c.in_err-rows.ensures ∙ c.loop-i.invariant
 
 pub loop-i-preserved : goal.loop-i-preserved
 loop-i-preserved c =
-    bought_more c.args.self.now.kwh c.loop-i.i c.loop-i.rows (Some c.in-ok-rows.rows) (omega arith) c.in-ok-rows.ensures ∙ c.loop-i.invariant
+    bought_more c.args.self.now.kwh c.loop-i.i c.loop-i.rows (Some c.in_ok-rows.rows) (omega arith) c.in_ok-rows.ensures ∙ c.loop-i.invariant
 
 pub returns : goal.returns
 returns c =

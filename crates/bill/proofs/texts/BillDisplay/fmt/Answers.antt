@@ -8,7 +8,7 @@ use Rattle.bill.specs.Lines.{lines}
 use Rattle.bill.specs.Texts.{line, page}
 use Rattle.bill.proofs.Listed.{page_more, no_line}
 use Rattle.bill.proofs.texts.BillDisplay.fmt.Goals as goal
-use Rattle.bill.proofs.texts.BillDisplay.fmt.Goals.{in-Some+in-ok-write, in-default}
+use Rattle.bill.proofs.texts.BillDisplay.fmt.Goals.{in-Some+in_ok-write, in_default}
 
 pub loop-k-init : goal.loop-k-init
 unfolding page
@@ -20,12 +20,12 @@ loop-k-preserved g c = λ plain.
     let room : c.loop-k.k < length (lines c.args.self.now.sheet.rows) = omega (arith, c.len-k-end.ensures, c.loop-k-test.true) in
     let so_far = c.loop-k.invariant plain in
     elim c.match-line.branch [
-      | in-Some+in-ok-write w ↦
+      | in-Some+in_ok-write w ↦
           let took = g.W.Write.write_str_gives in
-          let here = w.in-ok-write.ensures.shows so_far.plain refl in
+          let here = w.in_ok-write.ensures.shows so_far.plain refl in
           has_written_of_eq took _ _ _ _ (sym (page_more all c.loop-k.k w.in-Some.line room w.in-Some.ensures))
           (has_written_to_eq took _ _ _ _ w.f-is (has_written_append took _ _ _ _ _ so_far here))
-      | in-default w ↦ no_line all c.loop-k.k (Total (kwh_of 0)) room w.in-default.ensures
+      | in_default w ↦ no_line all c.loop-k.k (Total (kwh_of 0)) room w.in_default.ensures
     ]
 
 pub returns-clause-writes : goal.returns-clause-writes

@@ -6,8 +6,8 @@ use Rattle.chained.proofs.Filling.{cells_after, same_lent}
 use Rattle.chained.proofs.Keeping.{none_facts}
 use Rattle.chained.proofs.chained.ChainedLedger.new.Goals as goal
 
-pub invariant-of-result : goal.invariant-of-result
-invariant-of-result c =
+pub invariant_of-result : goal.invariant_of-result
+invariant_of-result c =
     let links = c.new.ensures in
     let cells = c.room-free.ensures in
     none_facts c.args.table.now c.new.result c.new-2.result (min c.room-free.result line_limit) links.heads links.used c.new-2.ensures (omega arith)

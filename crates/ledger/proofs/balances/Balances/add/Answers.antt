@@ -22,8 +22,8 @@ invariant_of-self g c =
     let p = c.args.posting in
     let kept = add_kept t.rows g.row.N t.free p c.unwrap-old.result (facts_of t) c.requires (sym c.unwrap-old.ensures ∙ c.balance.ensures.row) in
     let k : Facts g.row.N (set t.rows (p.number - 1) (Some c.grown-new.result)) c.one_fewer-self.result =
-        subst (λ (n : ℕ). Facts g.row.N (set t.rows (p.number - 1) (Some c.grown-new.result)) n) (sym c.one_fewer-self.ensures)
-        (subst (λ (x : Balance). Facts g.row.N (set t.rows (p.number - 1) (Some x)) (t.free - 1)) (sym c.grown-new.ensures) kept) in
+    subst (λ (n : ℕ). Facts g.row.N (set t.rows (p.number - 1) (Some c.grown-new.result)) n) (sym c.one_fewer-self.ensures)
+    (subst (λ (x : Balance). Facts g.row.N (set t.rows (p.number - 1) (Some x)) (t.free - 1)) (sym c.grown-new.ensures) kept) in
     record { sized = k.sized; room = k.room; bounded = k.bounded }
 
 pub returns : goal.returns
