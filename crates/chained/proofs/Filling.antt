@@ -1,5 +1,5 @@
 -- Steps done to a chained ledger, and what its table holds after them. Assumes nothing.
-use Rattle.std.proofs.Common.{◌≡◌, ℕ, List, [], ◌∷◌, Err, sym, ap, ◌∙◌, ap₂, Bor, MutBor}
+use Rattle.std.proofs.Common.{◌≡◌, ℕ, List, [], ◌∷◌, Err, sym, ap, ◌∙◌, ap₂, MutBor}
 use Rattle.ledger.specs.declared.refusal.LedgerFault.{LedgerFault}
 use Rattle.ledger.specs.declared.posting.Entry.{Entry}
 use Rattle.ledger.specs.Book.{Answer}
@@ -23,7 +23,7 @@ pub cells_after : (l m : ChainedLedger) (steps : List Step) → Recorded Wrote K
 cells_after l m [] a = ap (λ (x : ChainedLedger). x.table.now) a
 cells_after l m (enrols n ∷ steps) a =
     cells_after a.0 m steps a.2
-    ∙ ap₂ (λ (t : Table) (u : ℕ). filled t u steps) (ap (λ (x : Bor Table). x.now) a.1.table) (ap (λ (x : Links). x.used) a.1.links)
+    ∙ ap₂ (λ (t : Table) (u : ℕ). filled t u steps) (ap (λ (x : MutBor Table). x.now) a.1.table) (ap (λ (x : Links). x.used) a.1.links)
 cells_after l m (posts p ∷ steps) a =
     cells_after a.0 m steps a.2
     ∙ ap₂ (λ (t : Table) (u : ℕ). filled t u steps) a.1.cell a.1.more

@@ -21,27 +21,24 @@ use Rattle.chained.specs.Stepping.{counts_step, sums_step}
 use Rattle.chained.proofs.Whole.{heads_more, nexts_more, none_heads, none_counts, none_sums}
 
 -- what a chained ledger keeps of its table, links and balances, as the check asks for it
-abbrev Facts : List (Cell Entry) → ℕ → List ℕ → Balances 200 → Type 0
-Facts t used heads b =
-    (used + (book_of b).free ≡ room (length t))
-    × (Heads heads (number_at t) used × (Nexts (number_at t) (next_at t) used × (Counts (book_of b).count t used × (Sums fen_of (book_of b).sum t used × Unit {0}))))
+pub record Facts (t : List (Cell Entry)) (used : ℕ) (heads : List ℕ) (b : Balances 200) : Type 0 where
+  pub room : used + (book_of b).free ≡ room (length t)
+  pub headed : Heads heads (number_at t) used
+  pub nexts : Nexts (number_at t) (next_at t) used
+  pub counted : Counts (book_of b).count t used
+  pub summed : Sums fen_of (book_of b).sum t used
 
 -- no lines
 pub none_facts : (t : List (Cell Entry)) (k : Links) (b : Balances 200) (free : ℕ) → k.heads ≡ replicate 200 0 → k.used ≡ 0 → book_of b ≡ blank free → free ≡ room (length t) → Facts t k.used k.heads b
 none_facts t k b free h u e f =
-    let left : (book_of b).free ≡ free = ap (λ (x : Book). x.free) e in (
-      omega arith,
-      (
-        none_heads k.heads (number_at t) k.used 200 h u,
-        (
-          λ j l. omega arith,
-          (
-            none_counts (book_of b).count t k.used u (ap (λ (x : Book). x.count) e),
-            (none_sums fen_of (book_of b).sum t k.used u (ap (λ (x : Book). x.sum) e), tt),
-          ),
-        ),
-      ),
-    )
+    let left : (book_of b).free ≡ free = ap (λ (x : Book). x.free) e in
+    record {
+      room = omega arith;
+      headed = none_heads k.heads (number_at t) k.used 200 h u;
+      nexts = λ j l. omega arith;
+      counted = none_counts (book_of b).count t k.used u (ap (λ (x : Book). x.count) e);
+      summed = none_sums fen_of (book_of b).sum t k.used u (ap (λ (x : Book). x.sum) e);
+    }
 
 zero_sum : (s : ℤ) → nat_abs s ≤ 0 → s ≡ pos 0
 zero_sum s h = omega (arith, ints)
@@ -58,7 +55,13 @@ enrol_facts l n b asked e =
     let sums : (book_of b).sum ≡ (chained_book l).sum = ap (λ (x : Book). x.sum) e ∙ at_same old.sum n (pos 0) (zero_sum (old.sum n) nil) in
     let free : (book_of b).free ≡ l.balances.free = ap (λ (x : Book). x.free) e in
     let was = l.room in
-    (omega arith, (l.headed, (l.nexts, (λ m. ap (λ f. f m) counts ∙ l.counted m, (λ m. ap (λ f. f m) sums ∙ l.summed m, tt)))))
+    record {
+      room = omega arith;
+      headed = l.headed;
+      nexts = l.nexts;
+      counted = λ m. ap (λ f. f m) counts ∙ l.counted m;
+      summed = λ m. ap (λ f. f m) sums ∙ l.summed m;
+    }
 
 -- a posting that can be granted
 module _ (l : ChainedLedger) (p : Posting) (asked : post_answer 200 (chained_book l) p ≡ Ok tt) where
@@ -120,7 +123,7 @@ module _ (l : ChainedLedger) (p : Posting) (asked : post_answer 200 (chained_boo
       let sums : Sums fen_of (book_of b).sum (set l.table.now l.links.used (line_in l.table.now l.links.used p)) (l.links.used + 1) = λ m. ap (λ (x : Book). x.sum m) e ∙ sym (sums_step was c.used line fits fen_of old.sum l.summed m) in
       subst (λ (x : List (Cell Entry)). Facts x k.used k.heads b) (sym w)
       (subst (λ (h : List ℕ). Facts (set was c.used line) k.used h b) (sym moved.headed)
-      (subst (λ (u : ℕ). Facts (set was c.used line) u (set c.heads (p.number - 1) (c.used + 1)) b) (sym moved.more) (omega arith, (heads, (nexts, (counts, (sums, tt)))))))
+      (subst (λ (u : ℕ). Facts (set was c.used line) u (set c.heads (p.number - 1) (c.used + 1)) b) (sym moved.more) (record { room = omega arith; headed = heads; nexts = nexts; counted = counts; summed = sums })))
 
   -- is what the records tell
   pub line_recorded : (m : ChainedLedger) (r : Answer) → r ≡ Ok tt → m.table.now ≡ set l.table.now l.links.used (line_in l.table.now l.links.used p) → Linked p.number l.links m.links → m.table.ghost_name ≡ l.table.ghost_name → chained_book m ≡ with_line (chained_book l) p → did r (Wrote l p m) (m ≡ l)

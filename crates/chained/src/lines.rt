@@ -56,10 +56,10 @@ impl<'a> ChainedLedger<'a> {
     }
 }
 
-impl Ledger for ChainedLedger<'_> {
+impl<'a> Ledger for ChainedLedger<'a> {
     const GREATEST: u64 = 200;
 
-    ghost GREATEST = { 200 };
+    ghost top = { 200 };
 
     ghost book = { lines.chained_book };
 

@@ -11,14 +11,14 @@ use crate::refusal::LedgerFault;
 
 /// Whether a number is from 1 to the greatest, and enrolled.
 fn known<L: Ledger>(ledger: &L, number: u64) -> bool
-    ensures { result ≡ means.known L.Ledger.GREATEST (L.Ledger.book ledger.now) number }
+    ensures { result ≡ means.known L.Ledger.top (L.Ledger.book ledger.now) number }
 {
     ledger.count(number).is_ok()
 }
 
 /// Whether two lines can be posted, one after the other.
 pub fn check_both<L: Ledger>(ledger: &L, first: Posting, second: Posting) -> Result<(), LedgerFault>
-    ensures { result ≡ postings.both_answer L.Ledger.GREATEST (L.Ledger.book ledger.now) first second }
+    ensures { result ≡ postings.both_answer L.Ledger.top (L.Ledger.book ledger.now) first second }
 {
     if !known(ledger, first.number) || !known(ledger, second.number) {
         return Err(LedgerFault::Number);
@@ -38,7 +38,7 @@ pub fn post_both<L: Ledger>(
     first: Posting,
     second: Posting,
 ) -> Result<(), LedgerFault>
-    ensures answer { result ≡ postings.both_answer L.Ledger.GREATEST (L.Ledger.book ledger.old) first second }
+    ensures answer { result ≡ postings.both_answer L.Ledger.top (L.Ledger.book ledger.old) first second }
     ensures after { L.Ledger.book ledger.new ≡ postings.book_after (L.Ledger.book ledger.old) (postings.steps_of result (posts first ∷ posts second ∷ [])) }
     ensures records { postings.Recorded L.Ledger.wrote L.Ledger.kept ledger.old (postings.steps_of result (posts first ∷ posts second ∷ [])) ledger.new }
     ensures runs { (l m : L) (steps : List Step) → postings.Recorded L.Ledger.wrote L.Ledger.kept l steps m → L.Ledger.book m ≡ postings.book_after (L.Ledger.book l) steps }

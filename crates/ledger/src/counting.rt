@@ -30,7 +30,7 @@ impl CountingLedger {
 impl Ledger for CountingLedger {
     const GREATEST: u64 = 64;
 
-    ghost GREATEST = { 64 };
+    ghost top = { 64 };
 
     ghost book = { counting_book };
 

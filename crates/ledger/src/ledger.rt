@@ -13,14 +13,14 @@ pub trait Ledger {
     /// The greatest account number that this kind of ledger enrols.
     const GREATEST: u64;
 
-    /// The same in contracts: what each ledger gives here is proved to be its constant.
-    ghost GREATEST: { ℕ };
+    /// The same in contracts, which cannot name the constant of a ledger with a lifetime.
+    ghost top: { ℕ };
 
     /// What it means: which numbers are enrolled, the line count and fen sum of each, and the free lines.
     ghost book: { Self → Book };
 
     /// Every ledger shows that its book keeps to the laws.
-    ghost lawful: { (l : Self) → Lawful GREATEST (book l) };
+    ghost lawful: { (l : Self) → Lawful top (book l) };
 
     /// What a granted posting does to the ledger's own records.
     ghost wrote: { Self → Posting → Self → Type 0 };
@@ -34,9 +34,9 @@ pub trait Ledger {
     /// And so does what an enrolment did.
     ghost keeps: { (l : Self) (n : ℕ) (m : Self) → kept l n m → book m ≡ means.with_number (book l) n };
 
-    /// The greatest account number that this kind of ledger enrols.
+    /// The greatest account number that this kind of ledger enrols: its constant.
     fn largest() -> u64
-        ensures { result ≡ GREATEST };
+        ensures { result ≡ top };
 
     /// How many lines are free.
     fn free(&self) -> u64
@@ -48,21 +48,21 @@ pub trait Ledger {
 
     /// How many lines a number has.
     fn count(&self, number: u64) -> Result<u64, LedgerFault>
-        ensures { result ≡ means.answer_about GREATEST (book self.now) number ((book self.now).count number) };
+        ensures { result ≡ means.answer_about top (book self.now) number ((book self.now).count number) };
 
     /// What the lines of a number come to.
     fn sum(&self, number: u64) -> Result<Fen, LedgerFault>
-        ensures { result ≡ means.answer_about GREATEST (book self.now) number (record { fen = (book self.now).sum number }) };
+        ensures { result ≡ means.answer_about top (book self.now) number (record { fen = (book self.now).sum number }) };
 
     /// Enrols a number, with no lines; refused with 12.
     fn enrol(&mut self, number: u64) -> Result<(), LedgerFault>
-        ensures answer { result ≡ means.enrol_answer GREATEST (book self.old) number }
+        ensures answer { result ≡ means.enrol_answer top (book self.old) number }
         ensures after { book self.new ≡ means.after result (means.with_number (book self.old) number) (book self.old) }
         ensures records { means.did result (kept self.old number self.new) (self.new ≡ self.old) };
 
     /// Posts a line; refused with 12, 13 or 14.
     fn post(&mut self, posting: Posting) -> Result<(), LedgerFault>
-        ensures answer { result ≡ means.post_answer GREATEST (book self.old) posting }
+        ensures answer { result ≡ means.post_answer top (book self.old) posting }
         ensures after { book self.new ≡ means.after result (means.with_line (book self.old) posting) (book self.old) }
         ensures records { means.did result (wrote self.old posting self.new) (self.new ≡ self.old) };
 }

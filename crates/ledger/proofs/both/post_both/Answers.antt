@@ -23,11 +23,11 @@ returns-in_err-check_both g c =
 pub returns-in_err-post : goal.returns-in_err-post
 returns-in_err-post g c =
     let b = g.L.Ledger.book c.args.ledger.now in
-    not_refused c.in_err-post.field-0.0 (c.in_err-post.ensures.answer ∙ first_granted g.L.Ledger.GREATEST b c.args.first c.args.second c.in_ok-check_both.ensures)
+    not_refused c.in_err-post.field-0.0 (c.in_err-post.ensures.answer ∙ first_granted g.L.Ledger.top b c.args.first c.args.second c.in_ok-check_both.ensures)
 
 pub returns : goal.returns
 returns g c =
-    let top = g.L.Ledger.GREATEST in
+    let top = g.L.Ledger.top in
     let W = g.L.Ledger.wrote in
     let K = g.L.Ledger.kept in
     let l = c.args.ledger.now in

@@ -10,7 +10,8 @@ pub invariant_of-result : goal.invariant_of-result
 invariant_of-result c =
     let links = c.new.ensures in
     let cells = c.room-free.ensures in
-    none_facts c.args.table.now c.new.result c.new-2.result (min c.room-free.result line_limit) links.heads links.used c.new-2.ensures (omega arith)
+    let k = none_facts c.args.table.now c.new.result c.new-2.result (min c.room-free.result line_limit) links.heads links.used c.new-2.ensures (omega arith) in
+    record { room = k.room; headed = k.headed; nexts = k.nexts; counted = k.counted; summed = k.summed }
 
 pub returns : goal.returns
 returns c =

@@ -12,6 +12,6 @@ returns c =
     let b = chained_book s in
     let first = c.newest.ensures ∙ s.headed n in
     record {
-      answer = ap (λ i. Ok i) first ∙ answered_too 200 b n c.in-ok-count.field-0 (b.count n) (newest_of s.table.now s.links.used n) c.in-ok-count.ensures;
+      answer = ap (λ i. Ok i) first ∙ answered_too 200 b n c.in_ok-count.field-0 (b.count n) (newest_of s.table.now s.links.used n) c.in_ok-count.ensures;
       chain = chain_from fen_of b.count b.sum s.table.now s.links.used n c.newest.result s.nexts first s.counted s.summed;
     }
