@@ -1,5 +1,5 @@
 -- The arguments of a command line, one after the other.
-use Rattle.std.proofs.Common.{◌≡◌, ℕ, ◌+◌, ◌-◌, ◌<◌, ◌≤◌, ◌≢◌, List, [], map, length, get_or, set, Option, sym, ap, ◌∙◌, subst, arith, get_or-set_other, get_or-set_same, below_more}
+use Rattle.std.proofs.Common.{◌≡◌, ℕ, ◌+◌, ◌<◌, ◌≤◌, ◌≢◌, List, [], map, length, get_or, set, Option, sym, ap, ◌∙◌, subst, arith, get_or-set_other, get_or-set_same, below_more}
 use Rattle.std.proofs.lemmas.List.{get_or-map}
 use Rattle.sheet.specs.Rows.{kwh_of}
 use Rattle.sheet.specs.declared.quantity.Kwh.{Kwh}

@@ -1,5 +1,5 @@
 -- What one record more does to the chains of a table. Proofs, which stand here since a ghost member cites them.
-use Rattle.std.specs.Prelude.{◌≡◌, ℕ, zero, suc, ◌+◌, ◌-◌, ◌<◌, Bool, true, false, cond, List, ◌∷◌, map, length, get_or, ℤ, pos, ◌+ℤ◌, ◌==◌, slice_index_or, slice_set, refl}
+use Rattle.std.specs.Prelude.{◌≡◌, ℕ, zero, suc, ◌+◌, ◌<◌, Bool, true, false, cond, List, ◌∷◌, map, length, get_or, ℤ, pos, ◌+ℤ◌, ◌==◌, slice_index_or, slice_set, refl}
 use Rattle.std.proofs.Common.{arith, add-one, inl, inr, sym, ap₂, ◌∙◌}
 use Rattle.std.proofs.Math.Path.{ap, fun_ext}
 use Rattle.std.proofs.lemmas.List.{length-map, map-set, get_or-set_same, get_or-set_other}

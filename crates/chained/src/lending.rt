@@ -6,9 +6,9 @@ ghost use Rattle.chained.specs.Lines.{filled, opened_answer};
 use crate::cell::Line;
 use crate::chained::ChainedLedger;
 use ledger::both::post_both;
-use ledger::refusal::LedgerFault;
 use ledger::ledger::Ledger;
 use ledger::posting::Posting;
+use ledger::refusal::LedgerFault;
 
 /// Enrols a number in a new ledger over a table, and posts two lines or none.
 pub fn open_with_both(

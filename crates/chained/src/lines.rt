@@ -14,9 +14,9 @@ use crate::chained::ChainedLedger;
 use crate::linking::room;
 use crate::links::Links;
 use ledger::balances::Balances;
-use ledger::refusal::LedgerFault;
 use ledger::ledger::Ledger;
 use ledger::posting::Posting;
+use ledger::refusal::LedgerFault;
 use sheet::quantity::Fen;
 
 impl<'a> ChainedLedger<'a> {

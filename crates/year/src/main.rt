@@ -7,6 +7,7 @@ use anyhow::anyhow;
 use bill::arguments::household;
 use bill::bill::Bill;
 use std::env;
+use std::process::ExitCode;
 
 fn run(rt: &HostRuntime) -> anyhow::Result<()> {
     let Ok(arguments) = env::args(rt) else {
@@ -22,10 +23,13 @@ fn run(rt: &HostRuntime) -> anyhow::Result<()> {
     Ok(())
 }
 
-fn main(rt: HostRuntime) -> anyhow::Result<()> {
-    let result = run(&rt);
-    if let Err(error) = &result {
-        eprintln!(rt; "year: {error}")?;
+fn main(rt: HostRuntime) -> ExitCode {
+    match run(&rt) {
+        Ok(()) => ExitCode::SUCCESS,
+        Err(error) => {
+            // The status tells the failure even where this line cannot be written.
+            let _ = eprintln!(rt; "year: {error}");
+            ExitCode::FAILURE
+        }
     }
-    result
 }

@@ -1,4 +1,4 @@
-use Rattle.std.proofs.Common.{◌≡◌, ℕ, ◌<◌, ◌≤◌, List, [], map, length, get_or, Some, None, string_bytes, sym, ◌∙◌, arith, rules}
+use Rattle.std.proofs.Common.{◌≡◌, map, length, Some, None, string_bytes, sym, ◌∙◌, arith}
 use lib.ListN.{length-map}
 use Rattle.bill.proofs.Argued.{argument_at, read_at, some_months}
 use Rattle.bill.proofs.arguments.household.Goals as goal

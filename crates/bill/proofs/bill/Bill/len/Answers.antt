@@ -1,9 +1,9 @@
 use Rattle.std.proofs.Common.{List, [], ◌∷◌, length, ap, ◌∙◌, arith, length-append}
 use Rattle.sheet.specs.Rows.{numbered}
 use Rattle.tariff.specs.declared.band.Share.{Share}
-use Rattle.bill.specs.Lines.{month_line, end_lines, sum_line}
+use Rattle.bill.specs.Lines.{month_line, sum_line}
 use Rattle.bill.specs.Shandong.{shares}
-use Rattle.bill.specs.declared.lines.Line.TheVariants.{Total, Tier}
+use Rattle.bill.specs.declared.lines.Line.TheVariants.{Tier}
 use Rattle.bill.proofs.Listed.{length_numbered}
 use Rattle.bill.proofs.bill.Bill.len.Goals as goal
 

@@ -2,7 +2,6 @@ use Rattle.std.proofs.Common.{◌≡◌, pos, Some, ap, ◌∙◌, arith}
 use Rattle.sheet.specs.Money.{rounded}
 use Rattle.sheet.specs.declared.quantity.Fen.{Fen}
 use Rattle.sheet.specs.declared.quantity.Units.{Units}
-use Rattle.bill.specs.Lines.{sum_line}
 use Rattle.bill.specs.declared.lines.Line.TheVariants.{Sum}
 use Rattle.bill.proofs.Listed.{end_tier, end_sum, end_past}
 use Rattle.bill.proofs.bill.Bill.tier_line.Goals as goal

@@ -1,4 +1,4 @@
-use Rattle.std.proofs.Common.{◌≡◌, List, Some, None, sym, ap, ◌∙◌, arith}
+use Rattle.std.proofs.Common.{List, Some, None, sym, ap, ◌∙◌, arith}
 use Rattle.sheet.specs.declared.row.Row.{Row}
 use Rattle.bill.specs.Years.{bought_from}
 use Rattle.bill.proofs.Bought.{bought_more, bought_end}

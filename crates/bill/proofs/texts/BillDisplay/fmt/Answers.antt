@@ -1,11 +1,10 @@
-use Rattle.std.proofs.Common.{◌≡◌, ◌<◌, length, take, sym, refl, ap, ◌∙◌, subst, arith}
-use Rattle.std.specs.Fmt.{IsPlainFormatter, HasWritten}
+use Rattle.std.proofs.Common.{◌<◌, length, sym, refl, ap, arith}
 use Rattle.std.proofs.Output.{writes_in_calls_nil, has_written_append, has_written_of_eq, has_written_to_eq}
 use Rattle.std.proofs.lemmas.List.{take_all}
 use Rattle.sheet.specs.Rows.{kwh_of}
 use Rattle.bill.specs.declared.lines.Line.TheVariants.{Total}
 use Rattle.bill.specs.Lines.{lines}
-use Rattle.bill.specs.Texts.{line, page}
+use Rattle.bill.specs.Texts.{page}
 use Rattle.bill.proofs.Listed.{page_more, no_line}
 use Rattle.bill.proofs.texts.BillDisplay.fmt.Goals as goal
 use Rattle.bill.proofs.texts.BillDisplay.fmt.Goals.{in-Some+in_ok-write, in_default}
@@ -22,7 +21,7 @@ loop-k-preserved g c = λ plain.
     elim c.match-line.branch [
       | in-Some+in_ok-write w ↦
           let took = g.W.Write.write_str_gives in
-          let here = w.in_ok-write.ensures.shows so_far.plain refl in
+          let here = w.in_ok-write.ensures.writes so_far.plain refl in
           has_written_of_eq took _ _ _ _ (sym (page_more all c.loop-k.k w.in-Some.line room w.in-Some.ensures))
           (has_written_to_eq took _ _ _ _ w.f-is (has_written_append took _ _ _ _ _ so_far here))
       | in_default w ↦ no_line all c.loop-k.k (Total (kwh_of 0)) room w.in_default.ensures
