@@ -1,7 +1,7 @@
 -- The chains stay linked with one record more, and each is whole. Assumes nothing.
 use Rattle.std.proofs.Common.{◌≡◌, ℕ, zero, suc, ◌+◌, ◌-◌, ◌<◌, ◌≤◌, Bool, true, false, cond, eqb, List, [], ◌∷◌, length, get_or, set, replicate, ℤ, pos, Some, None, Option, unwrap_or, sym, refl, ap, ◌∙◌, subst, inl, inr, add-one, arith, Bor}
 use mathlib.Core.Path.{fun_ext}
-use Rattle.std.specs.List.{slice_get, AllByRecursion as All}
+use Rattle.std.specs.List.{slice_get, AllByRecursion}
 use Rattle.std.specs.Option.{option_map}
 use Rattle.std.specs.Slice.{IsGetResult}
 use Rattle.std.proofs.lemmas.Option.{slice_get_past, slice_get_read}
@@ -58,15 +58,15 @@ walked number next used nexts n (suc b) l =
     ]
 
 -- all of them are n's
-places_own : (number : ℕ → ℕ) (n b : ℕ) → All (λ j. number j ≡ n) (places number n b)
+places_own : (number : ℕ → ℕ) (n b : ℕ) → AllByRecursion (λ j. number j ≡ n) (places number n b)
 unfolding places
 places_own number n zero = tt
 places_own number n (suc b) =
     let older = places number n b in
     let again = places_own number n b in
     elim (cases_Bool (eqb (number b) n)) [
-      | inl y ↦ subst (λ (v : Bool). All (λ j. number j ≡ n) (cond v (b ∷ older) older)) (sym y) (eqb-true _ _ y, again)
-      | inr other ↦ subst (λ (v : Bool). All (λ j. number j ≡ n) (cond v (b ∷ older) older)) (sym other) again
+      | inl y ↦ subst (λ (v : Bool). AllByRecursion (λ j. number j ≡ n) (cond v (b ∷ older) older)) (sym y) (eqb-true _ _ y, again)
+      | inr other ↦ subst (λ (v : Bool). AllByRecursion (λ j. number j ≡ n) (cond v (b ∷ older) older)) (sym other) again
     ]
 
 -- newest first

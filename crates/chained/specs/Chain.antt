@@ -1,7 +1,7 @@
 -- Chains of records of any kind through a table of cells. The record at place j, counted from 0, has the index j + 1;
 -- index 0 ends a chain.
 use Rattle.std.specs.Prelude.{◌≡◌, ℕ, zero, suc, ◌<◌, cond, List, [], ◌∷◌, map, length, ℤ, pos, ◌+ℤ◌, ◌==◌, slice_index, slice_index_or}
-use Rattle.std.specs.List.{AllByRecursion as All}
+use Rattle.std.specs.List.{AllByRecursion}
 use Rattle.ledger.specs.Book.{indexed}
 use Rattle.chained.specs.declared.cell.Cell.{Cell}
 
@@ -55,7 +55,7 @@ Sums amount sum t used = (n : ℕ) → sum n ≡ total (amount_at amount t) (pla
 -- first, count of them, and they come to sum
 pub record ChainOf {R : Type 0} (amount : R → ℤ) (t : List (Cell R)) (used n index count : ℕ) (sum : ℤ) : Type 0 where
   pub walk : Walk (next_at t) index (places (number_at t) n used)
-  pub own : All (λ j. number_at t j ≡ n) (places (number_at t) n used)
+  pub own : AllByRecursion (λ j. number_at t j ≡ n) (places (number_at t) n used)
   pub order : Falling used (places (number_at t) n used)
   pub many : length (places (number_at t) n used) ≡ count
   pub comes : total (amount_at amount t) (places (number_at t) n used) ≡ sum

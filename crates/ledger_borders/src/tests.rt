@@ -4,9 +4,9 @@ mod counts;
 mod pairs;
 
 use chained::cell::Line;
-use ledger::refusal::LedgerFault;
 use ledger::ledger::Ledger;
 use ledger::posting::{Cause, Entry, Posting};
+use ledger::refusal::LedgerFault;
 use sheet::quantity::Fen;
 use std::process::Abort;
 use std::test::Fail;

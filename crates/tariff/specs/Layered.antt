@@ -1,6 +1,12 @@
--- What the layer keeps of the tariff below it, in numbers alone.
-use Rattle.std.specs.Prelude.{◌≡◌, ℕ, ◌+◌, ◌-◌, ◌*◌, ◌≤◌, min}
-use Rattle.std.proofs.Common.{arith, add-mul, mul-add, mul-le-mul, mul-le-mul_left, mul-le-mul_right, ap}
+-- A flat price is lawful, and so is time of use over what is lawful. Proofs, which stand here since laws cite them.
+use Rattle.std.specs.Prelude.{◌≡◌, ℕ, ◌+◌, ◌-◌, ◌*◌, ◌≤◌, min, max}
+use Rattle.std.proofs.Common.{arith, add-mul, mul-add, mul-zero, mul-le-mul, mul-le-mul_left, mul-le-mul_right, ap, ◌∙◌}
+use Rattle.sheet.specs.Sums.{total, timed_peak, timed_heating, timed_other}
+use Rattle.sheet.proofs.Adding.{timed_in_total}
+use Rattle.tariff.specs.Flat.{flat_rate}
+use Rattle.tariff.specs.Layer.{used, layer_rate}
+use Rattle.tariff.specs.Rate.{Rate, Lawful}
+use Rattle.tariff.specs.declared.changes.Changes.{Changes}
 
 -- two cuts, neither above m, for two parts of t kWh
 pub cuts_le : (u v m a b t : ℕ) → u ≤ m → v ≤ m → a + b ≤ t → u * a + v * b ≤ m * t
@@ -23,3 +29,34 @@ nothing_kept rise p cuts e = omega (arith, ap (λ x. rise * x) e)
 pub raised_small : (tot dear charge rise p : ℕ) → p ≤ tot → tot ≤ 11999988 → dear + rise ≤ 100000 → charge ≤ dear * tot → charge + rise * p ≤ 1199998800000
 raised_small tot dear charge rise p hp ht hd most =
     omega (arith, add-mul dear rise tot, mul-le-mul_left rise hp, mul-le-mul hd ht)
+
+-- a flat price is lawful
+pub flat_lawful : (price : ℕ) → price ≤ 20000 → Lawful (flat_rate price)
+flat_lawful price high = record {
+  ordered = omega arith;
+  bounded = omega arith;
+  nothing = λ s proper none. ap (λ x. price * x) none ∙ mul-zero price;
+  least = λ s proper. omega arith;
+  most = λ s proper low. omega arith;
+}
+
+-- and time of use over what is lawful
+pub layer_lawful : (below : Rate) (c : Changes) → c.rise.units ≤ 20000 → Lawful below → Lawful (layer_rate below c)
+layer_lawful below c high met =
+    let u = c.rise.units in
+    let o = used below c.ordinary.units in
+    let h = used below c.heating.units in
+    record {
+      ordered = omega (arith, met.ordered, met.bounded);
+      bounded = omega arith;
+      nothing = λ s proper none.
+          let parts = timed_in_total s in
+          omega (arith, met.nothing s proper none, nothing_kept u (timed_peak s) 0 (omega arith));
+      least = λ s proper.
+          let parts = timed_in_total s in
+          floor_kept below.cheapest _ (u * timed_peak s) _ (max o h) (total s) (omega arith) (met.least s proper)
+          (cuts_le o h (max o h) (timed_other s) (timed_heating s) (total s) (omega arith) (omega arith) (omega arith));
+      most = λ s proper low.
+          let parts = timed_in_total s in
+          ceiling_kept below.dearest _ u (timed_peak s) _ (total s) (omega arith) (met.most s proper (omega arith)) (omega arith);
+    }

@@ -2,9 +2,10 @@
 ghost use Rattle.std.specs.Prelude.{◌≡◌, ◌≤◌};
 ghost use Rattle.tariff.specs.Faults.{granted, lawful_or};
 ghost use Rattle.tariff.specs.Flat.{flat_rate, is_price};
-ghost use Rattle.std.proofs.Common.{rules, arith};
+ghost use Rattle.std.proofs.Common.{rules};
 ghost use Rattle.tariff.specs.Plain.{flat};
 ghost use Rattle.tariff.specs.SameCharge.{flat_alike};
+ghost use Rattle.tariff.specs.Layered.{flat_lawful};
 
 use crate::refusal::TariffFault;
 use crate::tariff::Tariff;
@@ -44,7 +45,7 @@ impl Tariff for Flat {
 
     ghost plain = { λ _. Unit {0} };
 
-    ghost lawful = { first_of (Prim.search rules, Prim.grind (arith, Self.row.coded.inj)) };
+    ghost lawful = { λ t. flat_lawful t.price.units t.high };
 
     ghost plainly = { λ t _. flat t.price.units (Prim.search rules) };
 

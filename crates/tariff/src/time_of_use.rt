@@ -1,14 +1,11 @@
 //! Time of use over any tariff: a rise for peak kWh and cuts for valley kWh, in the rows so marked.
-ghost use Rattle.std.specs.Prelude.{◌≡◌, ◌*◌, ◌≤◌};
+ghost use Rattle.std.specs.Prelude.{◌≡◌, ◌≤◌};
 ghost use Rattle.tariff.specs.Faults.{granted, lawful_or};
-ghost use Rattle.tariff.specs.Layer.{layer_rate, are_changes, used};
-ghost use Rattle.std.proofs.Common.{rules, arith};
+ghost use Rattle.tariff.specs.Layer.{layer_rate, are_changes};
+ghost use Rattle.std.proofs.Common.{rules};
 ghost use Rattle.tariff.specs.Plain.{layer};
 ghost use Rattle.tariff.specs.SameCharge.{layer_alike};
-ghost use Prim.Native.Nat;
-ghost use Rattle.sheet.specs.Sums.{total, timed_peak, timed_heating, timed_other};
-ghost use Rattle.sheet.proofs.Adding.{timed_in_total};
-ghost use Rattle.tariff.specs.Layered.{cuts_le, floor_kept, ceiling_kept, nothing_kept};
+ghost use Rattle.tariff.specs.Layered.{layer_lawful};
 
 use crate::changes::Changes;
 use crate::refusal::TariffFault;
@@ -49,26 +46,7 @@ impl<T: Tariff> Tariff for TimeOfUse<T> {
 
     ghost plain = { λ t. T.Tariff.plain t.below };
 
-    ghost lawful = { λ t.
-        let below = T.Tariff.rate t.below in
-        let met = T.Tariff.lawful t.below in
-        let u = t.changes.rise.units in
-        let o = used below t.changes.ordinary.units in
-        let h = used below t.changes.heating.units in
-        record {
-          ordered = omega (arith, met.ordered, met.bounded);
-          bounded = omega arith;
-          nothing = λ s proper none.
-              let parts = timed_in_total s in
-              omega (arith, met.nothing s proper none, nothing_kept u (timed_peak s) 0 (omega arith));
-          least = λ s proper.
-              let parts = timed_in_total s in
-              floor_kept below.cheapest _ (u * timed_peak s) _ (Nat.max o h) (total s) (omega arith) (met.least s proper)
-              (cuts_le o h (Nat.max o h) (timed_other s) (timed_heating s) (total s) (omega arith) (omega arith) (omega arith));
-          most = λ s proper low.
-              let parts = timed_in_total s in
-              ceiling_kept below.dearest _ u (timed_peak s) _ (total s) (omega arith) (met.most s proper (omega arith)) (omega arith);
-        } };
+    ghost lawful = { λ t. layer_lawful (T.Tariff.rate t.below) t.changes t.rise_high (T.Tariff.lawful t.below) };
 
     ghost plainly = { λ t below. layer (T.Tariff.rate t.below) t.changes (Prim.search rules) (T.Tariff.plainly t.below below) };
 
