@@ -1,5 +1,5 @@
 -- What the arguments of a command line give.
-use Rattle.std.specs.Prelude.{◌≡◌, ℕ, ◌-◌, ◌<◌, ◌≤◌, List, [], length, get_or, Some, None, Ok, Err, Option, Result, ◌≢◌, slice_index_or}
+use Rattle.std.specs.Prelude.{◌≡◌, ℕ, ◌-◌, ◌<◌, ◌≤◌, List, [], length, Some, None, Ok, Err, Option, Result, ◌≢◌, slice_index_or}
 use Rattle.std.specs.Str.Parse.{IsNumeral, digits_value, without_leading_plus}
 use Rattle.sheet.specs.Rows.{kwh_of, row_limit}
 use Rattle.sheet.specs.declared.quantity.Kwh.{Kwh as Quantity}
@@ -21,7 +21,7 @@ Read least most argument None = (n : ℕ) → Writes least most argument n → �
 
 -- the first n arguments write the kWh of as many months
 abbrev pub Months : (arguments : List (List ℕ)) → ℕ → List Quantity → Type 0
-Months arguments n kwh = (k : ℕ) → k < n → Writes 0 row_limit (slice_index_or arguments k []) (get_or kwh k (kwh_of 0)).kwh
+Months arguments n kwh = (k : ℕ) → k < n → Writes 0 row_limit (slice_index_or arguments k []) (slice_index_or kwh k (kwh_of 0)).kwh
 
 abbrev pub SomeMonths : (arguments : List (List ℕ)) → ℕ → Type 0
 SomeMonths arguments n = (k : ℕ) → k < n → (x : ℕ) × Writes 0 row_limit (slice_index_or arguments k []) x

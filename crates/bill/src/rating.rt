@@ -1,7 +1,5 @@
 //! Rating a household's year, and the lines of its bill.
-ghost use Rattle.std.specs.Prelude.{◌≡◌, ◌≤◌, length};
-ghost use Rattle.std.specs.Option.{option_map};
-ghost use Rattle.std.specs.List.{slice_get};
+ghost use Rattle.std.specs.Prelude.{◌≡◌, ◌≤◌, length, option_map, slice_get};
 ghost use Rattle.sheet.specs.Rows.{kwh, kwh_of, row_limit};
 ghost use Rattle.tariff.specs.Faults.{units_of};
 ghost use Rattle.tiers.specs.Splits.{shares_of};

@@ -1,6 +1,5 @@
 -- What putting a record into a table's chains answers and does.
-use Rattle.std.specs.Prelude.{◌≡◌, ℕ, ◌+◌, ◌-◌, min, Bool, cond, ◌&&◌, List, Some, None, Option, nat_lt, slice_set}
-use Rattle.std.specs.List.{slice_get}
+use Rattle.std.specs.Prelude.{◌≡◌, ℕ, ◌+◌, ◌-◌, min, Bool, cond, ◌&&◌, List, Some, None, Option, nat_lt, slice_set, slice_get}
 use Rattle.ledger.specs.Book.{within}
 use Rattle.chained.specs.declared.cell.Cell.{Cell}
 use Rattle.chained.specs.declared.links.Links.{Links}

@@ -60,7 +60,7 @@ enrol_answer top b n = first ((not (within top n), Number) ∷ (b.enrolled n, Nu
 -- what posting answers
 abbrev pub post_answer : ℕ → Book → Posting → Answer
 post_answer top b p =
-    first ((not (known top b p.number), Number) ∷ (not (payable p), Amount) ∷ ((b.free == 0), Full) ∷ [])
+    first ((not (known top b p.number), Number) ∷ (not (payable p), Amount) ∷ (b.free == 0, Full) ∷ [])
 
 -- what a question about a number is answered: the fact that is asked for, where the number is known
 abbrev pub answer_about : {A : Type 0} → ℕ → Book → ℕ → A → Result A LedgerFault

@@ -13,7 +13,7 @@ pub trait Ledger {
     /// The greatest account number that this kind of ledger enrols.
     const GREATEST: u64;
 
-    /// The same in contracts, which cannot name the constant of a ledger with a lifetime.
+    /// The same in contracts, which cannot name the constant where a ledger has a lifetime.
     ghost top: { ℕ };
 
     /// What it means: which numbers are enrolled, the line count and fen sum of each, and the free lines.
@@ -34,7 +34,8 @@ pub trait Ledger {
     /// And so does what an enrolment did.
     ghost keeps: { (l : Self) (n : ℕ) (m : Self) → kept l n m → book m ≡ means.with_number (book l) n };
 
-    /// The greatest account number that this kind of ledger enrols: its constant.
+    /// The greatest account number that this kind of ledger enrols. Each ledger answers its constant, and its contract
+    /// says which number that is.
     fn largest() -> u64
         ensures { result ≡ top };
 

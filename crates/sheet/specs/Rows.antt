@@ -1,6 +1,5 @@
 -- The rows of a year: what they hold, and what is done to them.
-use Rattle.std.specs.Prelude.{◌≡◌, ℕ, ◌+◌, ◌-◌, Bool, true, false, cond, ◌&&◌, List, [], ◌∷◌, map, length, Some, None, Option, nat_le, slice_index_or, slice_set}
-use Rattle.std.specs.Option.{option_map}
+use Rattle.std.specs.Prelude.{◌≡◌, ℕ, ◌+◌, ◌-◌, Bool, true, false, cond, ◌&&◌, List, [], ◌∷◌, map, length, Some, None, Option, nat_le, slice_index_or, slice_set, option_map}
 use Rattle.sheet.specs.declared.quantity.Kwh.{Kwh}
 use Rattle.sheet.specs.declared.row.Booking.{Booking}
 use Rattle.sheet.specs.declared.row.Booking.TheVariants.{Reading, Purchase}

@@ -1,6 +1,5 @@
 //! The sheet of a year: twelve rows, months 1 to 12, none above 999,999 kWh.
-ghost use Rattle.std.specs.Prelude.{◌≡◌, true, length};
-ghost use Rattle.std.specs.Option.{option_map};
+ghost use Rattle.std.specs.Prelude.{◌≡◌, true, length, option_map};
 ghost use Rattle.sheet.specs.Rows.{all_fit, all_fitting};
 
 use crate::row::YearRows;

@@ -1,4 +1,4 @@
--- On tiers or a flat price, bare or under layers, sheets alike in the six sums cost the same.
+-- On tiers or a flat price, bare or under layers, sheets alike in the six sums cost the same. Proofs, which stand here since laws cite them.
 use Rattle.std.specs.Prelude.{◌≡◌, ℕ, ◌+◌, ◌-◌, ◌*◌, min, Bool, true, false, cond, ◌&&◌, List, [], ◌∷◌, Some, None, refl}
 use Rattle.std.proofs.Common.{mul-add, mul-one, mul-zero, arith, ap, ap₂, ◌∙◌}
 use Rattle.sheet.specs.Rows.{kwh_of}

@@ -2,10 +2,9 @@
 ghost use Rattle.std.specs.Prelude.{◌≡◌, ◌≤◌};
 ghost use Rattle.tariff.specs.Faults.{granted, lawful_or};
 ghost use Rattle.tariff.specs.Flat.{flat_rate, is_price};
-ghost use Rattle.std.proofs.Common.{rules};
 ghost use Rattle.tariff.specs.Plain.{flat};
 ghost use Rattle.tariff.specs.SameCharge.{flat_alike};
-ghost use Rattle.tariff.specs.Layered.{flat_lawful};
+ghost use Rattle.tariff.specs.Layered.{flat_lawful, within_price};
 
 use crate::refusal::TariffFault;
 use crate::tariff::Tariff;
@@ -47,7 +46,7 @@ impl Tariff for Flat {
 
     ghost lawful = { λ t. flat_lawful t.price.units t.high };
 
-    ghost plainly = { λ t _. flat t.price.units (Prim.search rules) };
+    ghost plainly = { λ t _. flat t.price.units (within_price t.price.units t.low t.high) };
 
     ghost alike = { λ t _. flat_alike t.price.units };
 

@@ -2,10 +2,9 @@
 ghost use Rattle.std.specs.Prelude.{◌≡◌, ◌≤◌};
 ghost use Rattle.tariff.specs.Faults.{granted, lawful_or};
 ghost use Rattle.tariff.specs.Layer.{layer_rate, are_changes};
-ghost use Rattle.std.proofs.Common.{rules};
 ghost use Rattle.tariff.specs.Plain.{layer};
 ghost use Rattle.tariff.specs.SameCharge.{layer_alike};
-ghost use Rattle.tariff.specs.Layered.{layer_lawful};
+ghost use Rattle.tariff.specs.Layered.{layer_lawful, within_changes};
 
 use crate::changes::Changes;
 use crate::refusal::TariffFault;
@@ -48,7 +47,7 @@ impl<T: Tariff> Tariff for TimeOfUse<T> {
 
     ghost lawful = { λ t. layer_lawful (T.Tariff.rate t.below) t.changes t.rise_high (T.Tariff.lawful t.below) };
 
-    ghost plainly = { λ t below. layer (T.Tariff.rate t.below) t.changes (Prim.search rules) (T.Tariff.plainly t.below below) };
+    ghost plainly = { λ t below. layer (T.Tariff.rate t.below) t.changes (within_changes t.changes t.rise_high t.ordinary_high t.heating_high) (T.Tariff.plainly t.below below) };
 
     ghost alike = { λ t below. layer_alike (T.Tariff.rate t.below) t.changes (T.Tariff.alike t.below below) };
 

@@ -1,4 +1,4 @@
--- What a lawful tier table keeps to: prices and limits that never fall.
+-- What a lawful tier table keeps to: prices and limits that never fall. Proofs, which stand here since laws cite them.
 use Rattle.std.specs.Prelude.{◌≡◌, ℕ, ◌+◌, ◌-◌, ◌*◌, ◌≤◌, Bool, true, false, cond, List, [], ◌∷◌, length, nat_le}
 use Rattle.std.proofs.Common.{arith, add-mul, mul_comm, ap}
 use Rattle.std.proofs.lemmas.Bool.{and_parts, leb-true}

@@ -1,4 +1,4 @@
--- The laws of a tier table: what its shares cost together.
+-- The laws of a tier table: what its shares cost together. Proofs, which stand here since laws cite them.
 use Rattle.std.specs.Prelude.{◌≡◌, ℕ, ◌+◌, ◌-◌, ◌*◌, ◌≤◌, min, true, List, [], ◌∷◌}
 use Rattle.std.proofs.Common.{arith, mul-add, mul_comm, mul-le-mul, mul-le-mul_left, mul-le-mul_right, ap}
 use Rattle.sheet.specs.Rows.{Proper}

@@ -1,5 +1,5 @@
 use Rattle.std.proofs.Common.{◌≡◌, map, length, Some, None, string_bytes, sym, ◌∙◌, arith}
-use lib.ListN.{length-map}
+use Rattle.std.proofs.lemmas.List.{length-map}
 use Rattle.bill.proofs.Argued.{argument_at, read_at, some_months}
 use Rattle.bill.proofs.arguments.household.Goals as goal
 

@@ -1,5 +1,5 @@
 use Rattle.std.proofs.Common.{◌≡◌, ◌+◌, ◌-◌, [], map, get_or, Some, None, string_bytes, ap, ◌∙◌, arith, length-set}
-use lib.ListN.{length-map}
+use Rattle.std.proofs.lemmas.List.{length-map}
 use Rattle.bill.proofs.Argued.{argument_at, read_at, months_more, some_months}
 use Rattle.bill.proofs.arguments.months.Goals as goal
 

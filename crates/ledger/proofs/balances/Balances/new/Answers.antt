@@ -1,5 +1,5 @@
 use Rattle.std.proofs.Common.{◌≡◌, min, None, sym, ap, ◌∙◌, subst, arith, rules}
-use lib.ListN.{length-replicate}
+use Rattle.std.proofs.lemmas.List.{length-replicate}
 use Rattle.ledger.specs.Book.{blank, line_limit}
 use Rattle.ledger.specs.Lawful.{Bounded}
 use Rattle.ledger.proofs.Changed.{each_same}
