@@ -78,11 +78,3 @@ fn changes(rise: u64, ordinary: u64, heating: u64) -> Changes {
 fn fen<T: Tariff>(tariff: &T, sheet: &Sheet) -> Result<i64, TariffFault> {
     Ok(tariff.charge(sheet)?.to_fen().fen)
 }
-
-// The number of a refusal, or 0.
-fn refusal<T: Drop>(made: Result<T, TariffFault>) -> u8 {
-    match made {
-        Ok(_) => 0,
-        Err(fault) => fault.code().number,
-    }
-}

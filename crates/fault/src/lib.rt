@@ -2,6 +2,10 @@
 
 #![tactic(auto)]
 
+ghost use Rattle.std.specs.Prelude.{◌≡◌};
+ghost use Rattle.fault.specs.Refusals.{refused};
+ghost use Rattle.fault.specs.declared.Code.{Code};
+
 /// The layer that a refusal comes from.
 #[derive(Clone, Copy, PartialEq, Eq, Debug)]
 pub enum Layer {
@@ -17,4 +21,21 @@ pub struct Code {
     pub number: u8,
     pub layer: Layer,
     pub place: u64,
+}
+
+/// A reason for which a call is refused.
+pub trait Refusal: Copy {
+    /// What each reason tells.
+    ghost code: { Self → Code };
+
+    /// Its number, layer and place.
+    fn code(self) -> Code
+        ensures { result ≡ code self };
+}
+
+/// The number of the refusal that a reply is, if it is one.
+pub fn refused<T: Drop, F: Refusal>(reply: Result<T, F>) -> Option<u8>
+    ensures { result ≡ refused F.Refusal.code reply }
+{
+    Some(reply.err()?.code().number)
 }

@@ -1,8 +1,7 @@
 //! Why a ledger refuses.
-ghost use Rattle.std.specs.Prelude.{◌≡◌};
 ghost use Rattle.ledger.specs.Codes.{code};
 
-use fault::{Code, Layer};
+use fault::{Code, Layer, Refusal};
 
 /// Why a ledger refuses.
 #[derive(Clone, Copy, PartialEq, Eq, Debug)]
@@ -15,11 +14,10 @@ pub enum LedgerFault {
     Full,
 }
 
-impl LedgerFault {
-    /// Its number, layer and place.
-    pub fn code(self) -> Code
-        ensures { result ≡ code self }
-    {
+impl Refusal for LedgerFault {
+    ghost code = { code };
+
+    fn code(self) -> Code {
         let number = match self {
             LedgerFault::Number => 12,
             LedgerFault::Amount => 13,

@@ -34,14 +34,6 @@ fn purchase(number: u64, fen: i64) -> Posting {
     }
 }
 
-// The number of a refusal, or 0.
-fn refusal<T: Drop>(reply: Result<T, LedgerFault>) -> u8 {
-    match reply {
-        Ok(_) => 0,
-        Err(fault) => fault.code().number,
-    }
-}
-
 fn sum_of<L: Ledger>(ledger: &L, number: u64) -> Result<i64, LedgerFault> {
     Ok(ledger.sum(number)?.fen)
 }

@@ -3,19 +3,19 @@ ghost use Rattle.std.specs.Prelude.{◌≡◌, pos};
 ghost use Rattle.sheet.specs.Money.{rounded};
 
 /// Energy in whole kWh.
-#[derive(Clone, Copy, PartialEq, Eq, Debug)]
+#[derive(Clone, Copy, PartialEq, Eq, PartialOrd, Ord, Debug)]
 pub struct Kwh {
     pub kwh: u64,
 }
 
 /// A price per kWh, or a charge, in units of 0.0001 yuan.
-#[derive(Clone, Copy, PartialEq, Eq, Debug)]
+#[derive(Clone, Copy, PartialEq, Eq, PartialOrd, Ord, Debug)]
 pub struct Units {
     pub units: u64,
 }
 
 /// Money in fen, 100 to the yuan. A negative amount is owed to the household.
-#[derive(Clone, Copy, PartialEq, Eq, Debug)]
+#[derive(Clone, Copy, PartialEq, Eq, PartialOrd, Ord, Debug)]
 pub struct Fen {
     pub fen: i64,
 }

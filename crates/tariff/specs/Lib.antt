@@ -1,5 +1,6 @@
 pub mod Rate
 pub mod Faults
+pub mod Values
 pub mod Flat
 pub mod Layer
 pub mod Table

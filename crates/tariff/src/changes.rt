@@ -1,4 +1,7 @@
 //! What time of use changes in the price of a kWh.
+ghost use Rattle.std.specs.Prelude.{◌≡◌};
+ghost use Rattle.tariff.specs.Values.{changes};
+
 use sheet::quantity::Units;
 
 /// The rise of a peak kWh, and the cuts of a valley kWh in ordinary and in heating months.
@@ -7,4 +10,17 @@ pub struct Changes {
     pub rise: Units,
     pub ordinary: Units,
     pub heating: Units,
+}
+
+impl Changes {
+    /// A rise and two cuts, in units.
+    pub fn new(rise: u64, ordinary: u64, heating: u64) -> Changes
+        ensures { result ≡ changes rise ordinary heating }
+    {
+        Changes {
+            rise: Units { units: rise },
+            ordinary: Units { units: ordinary },
+            heating: Units { units: heating },
+        }
+    }
 }

@@ -23,7 +23,7 @@ pub struct Flat {
 pub fn is_price(price: Units) -> bool
     ensures { result ≡ is_price price.units }
 {
-    1 <= price.units && price.units <= 20_000
+    (1..=20_000).contains(&price.units)
 }
 
 impl Flat {

@@ -1,8 +1,7 @@
 //! Why a tariff refuses.
-ghost use Rattle.std.specs.Prelude.{◌≡◌};
 ghost use Rattle.tariff.specs.Faults.{code};
 
-use fault::{Code, Layer};
+use fault::{Code, Layer, Refusal};
 
 /// Why a tariff refuses.
 #[derive(Clone, Copy, PartialEq, Eq, Debug)]
@@ -13,11 +12,10 @@ pub enum TariffFault {
     Unlawful,
 }
 
-impl TariffFault {
-    /// Its number, layer and place.
-    pub fn code(self) -> Code
-        ensures { result ≡ code self }
-    {
+impl Refusal for TariffFault {
+    ghost code = { code };
+
+    fn code(self) -> Code {
         let number = match self {
             TariffFault::TooDear => 11,
             TariffFault::Unlawful => 16,
