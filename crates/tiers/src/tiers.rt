@@ -27,9 +27,9 @@ fn in_range(band: &Band) -> bool
 fn not_below(before: &Band, band: &Band) -> bool
     ensures { result ≡ rules.not_below before.now band.now }
 {
-    before.price.units <= band.price.units
-        && before.ordinary.kwh <= band.ordinary.kwh
-        && before.multi.kwh <= band.multi.kwh
+    before.price <= band.price
+        && before.ordinary <= band.ordinary
+        && before.multi <= band.multi
 }
 
 fn may_follow(before: &Band, band: &Band) -> bool
