@@ -11,8 +11,6 @@ use sheet::quantity::{Kwh, Units};
 use sheet::row::{Booking, YearMarks, YearRows};
 use sheet::rows::{blank_year, booked_in};
 use sheet::sheet::Sheet;
-use tariff::band::Band;
-use tariff::changes::Changes;
 use tariff::refusal::TariffFault;
 use tariff::tariff::Tariff;
 
@@ -57,22 +55,6 @@ fn with(rows: &YearRows, month: u64, booking: Booking) -> Result<Sheet, Unfit> {
 
 fn units(units: u64) -> Units {
     Units { units }
-}
-
-fn band(price: u64, ordinary: u64, multi: u64) -> Band {
-    Band {
-        price: units(price),
-        ordinary: Kwh { kwh: ordinary },
-        multi: Kwh { kwh: multi },
-    }
-}
-
-fn changes(rise: u64, ordinary: u64, heating: u64) -> Changes {
-    Changes {
-        rise: units(rise),
-        ordinary: units(ordinary),
-        heating: units(heating),
-    }
 }
 
 fn fen<T: Tariff>(tariff: &T, sheet: &Sheet) -> Result<i64, TariffFault> {

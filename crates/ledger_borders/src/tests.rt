@@ -1,9 +1,10 @@
-//! What the tests share: postings, refusals as their numbers, and what every ledger must answer.
+//! What the tests share: postings, and what every ledger must answer.
 mod chains;
 mod counts;
 mod pairs;
 
 use chained::cell::Line;
+use fault::refused;
 use ledger::ledger::Ledger;
 use ledger::posting::{Cause, Entry, Posting};
 use ledger::refusal::LedgerFault;
@@ -48,15 +49,15 @@ fn enrols<L: Ledger>(
     assert_eq!(rt; L::GREATEST, greatest);
     assert_eq!(rt; L::largest(), greatest);
     for outside in [0, past, u64::MAX] {
-        assert_eq!(rt; refusal(ledger.enrol(outside)), 12);
-        assert_eq!(rt; refusal(ledger.count(outside)), 12);
+        assert_eq!(rt; refused(ledger.enrol(outside)), Some(12));
+        assert_eq!(rt; refused(ledger.count(outside)), Some(12));
         assert!(rt; !ledger.enrolled(outside));
     }
     for number in [1, greatest] {
-        assert_eq!(rt; refusal(ledger.sum(number)), 12);
-        assert_eq!(rt; refusal(ledger.post(purchase(number, 1))), 12);
-        assert_eq!(rt; refusal(ledger.enrol(number)), 0);
-        assert_eq!(rt; refusal(ledger.enrol(number)), 12);
+        assert_eq!(rt; refused(ledger.sum(number)), Some(12));
+        assert_eq!(rt; refused(ledger.post(purchase(number, 1))), Some(12));
+        assert_eq!(rt; refused(ledger.enrol(number)), None);
+        assert_eq!(rt; refused(ledger.enrol(number)), Some(12));
         assert!(rt; ledger.enrolled(number));
         assert_eq!(rt; ledger.count(number)?, 0);
         assert_eq!(rt; sum_of(ledger, number)?, 0);
@@ -67,18 +68,33 @@ fn enrols<L: Ledger>(
 // With two lines free: amounts at the bound are posted and those past it refused, before and after the ledger is full.
 fn bounds<L: Ledger>(rt: &impl Abort, ledger: &mut L) -> Result<(), Fail> {
     assert_eq!(rt; ledger.free(), 2);
-    assert_eq!(rt; refusal(ledger.post(purchase(1, 10_000_000_000_001))), 13);
-    assert_eq!(rt; refusal(ledger.post(purchase(1, -10_000_000_000_001))), 13);
-    assert_eq!(rt; refusal(ledger.post(purchase(1, i64::MIN))), 13);
-    assert_eq!(rt; refusal(ledger.post(purchase(2, 10_000_000_000_001))), 12);
-    assert_eq!(rt; refusal(ledger.post(purchase(1, 10_000_000_000_000))), 0);
+    assert_eq!(rt;
+        refused(ledger.post(purchase(1, 10_000_000_000_001))),
+        Some(13)
+    );
+    assert_eq!(rt;
+        refused(ledger.post(purchase(1, -10_000_000_000_001))),
+        Some(13)
+    );
+    assert_eq!(rt; refused(ledger.post(purchase(1, i64::MIN))), Some(13));
+    assert_eq!(rt;
+        refused(ledger.post(purchase(2, 10_000_000_000_001))),
+        Some(12)
+    );
+    assert_eq!(rt; refused(ledger.post(purchase(1, 10_000_000_000_000))), None);
     assert_eq!(rt; sum_of(ledger, 1)?, 10_000_000_000_000);
-    assert_eq!(rt; refusal(ledger.post(purchase(1, -10_000_000_000_000))), 0);
+    assert_eq!(rt;
+        refused(ledger.post(purchase(1, -10_000_000_000_000))),
+        None
+    );
     assert_eq!(rt; sum_of(ledger, 1)?, 0);
     assert_eq!(rt; ledger.count(1)?, 2);
     assert_eq!(rt; ledger.free(), 0);
-    assert_eq!(rt; refusal(ledger.post(purchase(1, 1))), 14);
-    assert_eq!(rt; refusal(ledger.post(purchase(1, 10_000_000_000_001))), 13);
-    assert_eq!(rt; refusal(ledger.post(purchase(2, 1))), 12);
+    assert_eq!(rt; refused(ledger.post(purchase(1, 1))), Some(14));
+    assert_eq!(rt;
+        refused(ledger.post(purchase(1, 10_000_000_000_001))),
+        Some(13)
+    );
+    assert_eq!(rt; refused(ledger.post(purchase(2, 1))), Some(12));
     Ok(())
 }

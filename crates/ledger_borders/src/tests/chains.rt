@@ -1,7 +1,8 @@
 //! The chained ledger: numbers 1 to 200, tables of 0, 1, 2 and 3 cells, and the chains through them.
-use super::{UNUSED, bounds, enrols, purchase, refusal};
+use super::{UNUSED, bounds, enrols, purchase};
 use chained::chained::ChainedLedger;
 use chained::lending::open_with_both;
+use fault::refused;
 use ledger::ledger::Ledger;
 use std::test::Fail;
 
@@ -23,13 +24,13 @@ fn no_cells_and_one(rt: HostRuntime) -> Result<(), Fail> {
     let mut empty = ChainedLedger::new(&mut none);
     empty.enrol(1)?;
     assert_eq!(rt; empty.free(), 0);
-    assert_eq!(rt; refusal(empty.post(purchase(1, 1))), 14);
+    assert_eq!(rt; refused(empty.post(purchase(1, 1))), Some(14));
     assert_eq!(rt; empty.newest(1)?, 0);
     let mut one = [UNUSED; 1];
     let mut small = ChainedLedger::new(&mut one);
     small.enrol(200)?;
-    assert_eq!(rt; refusal(small.post(purchase(200, -7))), 0);
-    assert_eq!(rt; refusal(small.post(purchase(200, 1))), 14);
+    assert_eq!(rt; refused(small.post(purchase(200, -7))), None);
+    assert_eq!(rt; refused(small.post(purchase(200, 1))), Some(14));
     assert_eq!(rt; small.newest(200)?, 1);
     assert_eq!(rt; one[0].number, 200);
     assert_eq!(rt; one[0].next, 0);
@@ -51,11 +52,11 @@ fn two_chains(rt: HostRuntime) -> Result<(), Fail> {
     assert_eq!(rt; ledger.sum(7)?.fen, -4);
     assert_eq!(rt; ledger.newest(7)?, 3);
     assert_eq!(rt; ledger.newest(200)?, 2);
-    assert_eq!(rt; refusal(ledger.newest(8)), 12);
+    assert_eq!(rt; refused(ledger.newest(8)), Some(12));
     assert!(rt; ledger.line(0).is_none());
     assert!(rt; ledger.line(4).is_none());
     assert_eq!(rt; ledger.free(), 0);
-    assert_eq!(rt; refusal(ledger.post(purchase(7, 1))), 14);
+    assert_eq!(rt; refused(ledger.post(purchase(7, 1))), Some(14));
     assert_eq!(rt; table[2].next, 1);
     assert_eq!(rt; table[1].next, 0);
     assert_eq!(rt; table[0].next, 0);
@@ -84,17 +85,17 @@ fn a_line(rt: HostRuntime) -> Result<(), Fail> {
 fn the_lenders_table(rt: HostRuntime) {
     let mut table = [UNUSED; 3];
     assert_eq!(rt;
-        refusal(open_with_both(&mut table, 201, purchase(201, 5), purchase(201, 6))),
-        12
+        refused(open_with_both(&mut table, 201, purchase(201, 5), purchase(201, 6))),
+        Some(12)
     );
     assert_eq!(rt;
-        refusal(open_with_both(&mut table, 9, purchase(9, 5), purchase(8, 6))),
-        12
+        refused(open_with_both(&mut table, 9, purchase(9, 5), purchase(8, 6))),
+        Some(12)
     );
     assert_eq!(rt; table[0].number, 0);
     assert_eq!(rt;
-        refusal(open_with_both(&mut table, 9, purchase(9, 5), purchase(9, 6))),
-        0
+        refused(open_with_both(&mut table, 9, purchase(9, 5), purchase(9, 6))),
+        None
     );
     assert_eq!(rt; table[0].item.fen.fen, 5);
     assert_eq!(rt; table[1].item.fen.fen, 6);

@@ -1,5 +1,6 @@
 //! Two lines or none.
-use super::{purchase, refusal, sum_of};
+use super::{purchase, sum_of};
+use fault::refused;
 use ledger::both::post_both;
 use ledger::counting::CountingLedger;
 use ledger::ledger::Ledger;
@@ -11,40 +12,40 @@ fn both_or_none(rt: HostRuntime) -> Result<(), Fail> {
     ledger.enrol(1)?;
     ledger.enrol(2)?;
     assert_eq!(rt;
-        refusal(post_both(&mut ledger, purchase(1, 5), purchase(3, 6))),
-        12
+        refused(post_both(&mut ledger, purchase(1, 5), purchase(3, 6))),
+        Some(12)
     );
     assert_eq!(rt;
-        refusal(post_both(&mut ledger, purchase(3, 5), purchase(1, 6))),
-        12
+        refused(post_both(&mut ledger, purchase(3, 5), purchase(1, 6))),
+        Some(12)
     );
     assert_eq!(rt;
-        refusal(post_both(&mut ledger, purchase(1, 5), purchase(1, 10_000_000_000_001))),
-        13
+        refused(post_both(&mut ledger, purchase(1, 5), purchase(1, 10_000_000_000_001))),
+        Some(13)
     );
     assert_eq!(rt;
-        refusal(post_both(
+        refused(post_both(
             &mut ledger,
             purchase(1, -10_000_000_000_001),
             purchase(1, 5),
         )),
-        13
+        Some(13)
     );
     assert_eq!(rt;
-        refusal(post_both(&mut ledger, purchase(1, 10_000_000_000_001), purchase(3, 5))),
-        12
+        refused(post_both(&mut ledger, purchase(1, 10_000_000_000_001), purchase(3, 5))),
+        Some(12)
     );
     assert_eq!(rt; ledger.count(1)?, 0);
     assert_eq!(rt;
-        refusal(post_both(&mut ledger, purchase(1, 5), purchase(2, -6))),
-        0
+        refused(post_both(&mut ledger, purchase(1, 5), purchase(2, -6))),
+        None
     );
     assert_eq!(rt; sum_of(&ledger, 1)?, 5);
     assert_eq!(rt; sum_of(&ledger, 2)?, -6);
     assert_eq!(rt; ledger.free(), 1);
     assert_eq!(rt;
-        refusal(post_both(&mut ledger, purchase(1, 5), purchase(1, -5))),
-        14
+        refused(post_both(&mut ledger, purchase(1, 5), purchase(1, -5))),
+        Some(14)
     );
     assert_eq!(rt; ledger.count(1)?, 1);
     assert_eq!(rt; ledger.free(), 1);
