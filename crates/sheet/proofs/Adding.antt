@@ -1,9 +1,8 @@
 -- What the sums over the rows of a year keep to.
-use Rattle.std.proofs.Common.{◌≡◌, ℕ, ◌+◌, ◌*◌, ◌<◌, ◌≤◌, Bool, true, false, cond, not, ◌&&◌, List, [], ◌∷◌, length, get_or, drop, arith}
+use Rattle.std.proofs.Common.{◌≡◌, ℕ, ◌+◌, ◌*◌, ◌<◌, ◌≤◌, true, List, [], ◌∷◌, length, get_or, drop, arith}
 use Rattle.std.proofs.lemmas.List.{at_drop_more, at_drop_all}
-use Rattle.std.proofs.lemmas.Bool.{and_parts, leb-true}
-use Rattle.sheet.specs.Sums.{sum_from, row_kwh, row_counted, row_multi, row_peak, row_heating, row_other, heating, total, counted_months, multi_months, timed_peak, timed_heating, timed_other}
-use Rattle.sheet.specs.Rows.{kwh, none, fits, all_fit, Proper}
+use Rattle.sheet.specs.Sums.{sum_from, row_kwh, row_counted, row_multi, row_peak, row_heating, row_other, total, counted_months, multi_months, timed_peak, timed_heating, timed_other}
+use Rattle.sheet.specs.Rows.{none, all_fit, Proper}
 use Rattle.sheet.specs.declared.row.Row.{Row}
 use Rattle.sheet.specs.declared.sheet.Sheet.{Sheet}
 

@@ -1,9 +1,6 @@
 -- Rows within their limits, and what keeps them there.
-use Rattle.std.proofs.Common.{◌≡◌, ℕ, zero, suc, ◌+◌, ◌-◌, ◌<◌, ◌≤◌, Bool, true, false, cond, ◌&&◌, leb, List, [], ◌∷◌, length, get_or, drop, set, Some, None, refl, ap, ◌∙◌, arith}
-use Rattle.std.proofs.lemmas.List.{at_drop_more, at_drop_all}
-use Rattle.std.proofs.lemmas.Bool.{and_parts, leb-true}
-use Rattle.std.specs.Option.{option_map}
-use Rattle.sheet.specs.Rows.{kwh, none, fits, all_fit, row_of, booked, is_month, booked_in, marked, numbered, after_month, blank_year}
+use Rattle.std.proofs.Common.{◌≡◌, ℕ, zero, suc, ◌+◌, ◌-◌, ◌≤◌, true, cond, leb, List, [], ◌∷◌, get_or, set, Some, refl, arith}
+use Rattle.sheet.specs.Rows.{kwh, none, fits, all_fit, row_of, booked, booked_in, marked, numbered, after_month, blank_year}
 use Rattle.sheet.specs.declared.row.Booking.{Booking}
 use Rattle.sheet.specs.declared.row.Marking.{Marking}
 use Rattle.sheet.specs.declared.row.Marking.TheVariants.{Uncount, MultiPerson, TimeOfUse, NoTimeOfUse}
