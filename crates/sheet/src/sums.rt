@@ -44,9 +44,11 @@ impl Sheet {
     // The sum over the rows of what `adds` gives for a month and its row: at most the kWh of the row, or 1, so that the sum fits.
     #[tactic(auto, using(crate::proofs::Adding::sum_more, crate::proofs::Adding::sum_end, crate::proofs::Fitting::fits_at))]
     fn sum_of<F: Fn(u64, Row) -> u64>(&self, adds: F) -> u64
+        ghost f: { ℕ → Row → ℕ }
         requires callable { F.IsAlwaysCallable adds }
-        requires small { (month : _) (row : _) (n : _) → F.post adds month row n → n ≤ kwh row + 1 }
-        ensures { (f : ℕ → Row → ℕ) → ((month : _) (row : _) (n : _) → F.post adds month row n → n ≡ f month row) → result ≡ means.sum_from f 1 self.now.rows }
+        requires gives { (month : _) (row : _) (n : _) → F.post adds month row n → n ≡ f month row }
+        requires small { (month : _) (row : _) → f month row ≤ kwh row + 1 }
+        ensures { result ≡ means.sum_from f 1 self.now.rows }
     {
         let mut added = 0;
         for (i, row) in self.rows.iter().enumerate() {
@@ -59,30 +61,31 @@ impl Sheet {
     pub fn six_sums(&self) -> SixSums
         ensures { result ≡ means.six_sums self.now.rows }
     {
-        let counted = self.sum_of(|_, row| u64::from(row.counted));
-        let multi = self.sum_of(|_, row| u64::from(row.counted && row.multi));
-        let peak = self.sum_of(|_, row| if row.timed { row.peak.kwh } else { 0 });
-        let heating = self.sum_of(|month, row| {
-            if row.timed && is_heating(month) {
-                row.valley.kwh
-            } else {
-                0
-            }
-        });
-        let other = self.sum_of(|month, row| {
-            if row.timed && !is_heating(month) {
-                row.valley.kwh
-            } else {
-                0
-            }
-        });
         SixSums {
-            counted,
-            multi,
+            counted: self.sum_of(|_, row| u64::from(row.counted)),
+            multi: self.sum_of(|_, row| u64::from(row.counted && row.multi)),
             total: self.total(),
-            peak: Kwh { kwh: peak },
-            heating: Kwh { kwh: heating },
-            other: Kwh { kwh: other },
+            peak: Kwh {
+                kwh: self.sum_of(|_, row| if row.timed { row.peak.kwh } else { 0 }),
+            },
+            heating: Kwh {
+                kwh: self.sum_of(|month, row| {
+                    if row.timed && is_heating(month) {
+                        row.valley.kwh
+                    } else {
+                        0
+                    }
+                }),
+            },
+            other: Kwh {
+                kwh: self.sum_of(|month, row| {
+                    if row.timed && !is_heating(month) {
+                        row.valley.kwh
+                    } else {
+                        0
+                    }
+                }),
+            },
         }
     }
 }
