@@ -1,5 +1,6 @@
 -- The rows of a year: what they hold, and what is done to them.
 use Rattle.std.specs.Prelude.{◌≡◌, ℕ, ◌+◌, ◌-◌, Bool, true, false, cond, ◌&&◌, List, [], ◌∷◌, map, length, Some, None, Option, nat_le, slice_index_or, slice_set, option_map}
+use Rattle.std.specs.List.{list_all}
 use Rattle.sheet.specs.declared.quantity.Kwh.{Kwh}
 use Rattle.sheet.specs.declared.row.Booking.{Booking}
 use Rattle.sheet.specs.declared.row.Booking.TheVariants.{Reading, Purchase}
@@ -30,9 +31,8 @@ row_limit = 999999
 abbrev pub fits : Row → Bool
 fits r = nat_le (kwh r) row_limit
 
-unfoldable pub all_fit : List Row → Bool
-all_fit [] = true
-all_fit (r ∷ rs) = fits r && all_fit rs
+abbrev pub all_fit : List Row → Bool
+all_fit rows = list_all fits rows
 
 -- rows if each is within its limit
 abbrev pub all_fitting : List Row → Option (List Row)

@@ -26,6 +26,7 @@ pub enum Booking {
 }
 
 /// What becomes of the marks of the rows after a month.
+// Its kinds are closed: a closure in its place could change the kWh too, and no clause could say that marks alone change.
 #[derive(Clone, Copy)]
 pub enum Marking {
     /// They no longer count.
@@ -40,6 +41,7 @@ pub enum Marking {
 
 /// The marks of a blank year: counted and time of use from a month on, multi-person up to a month.
 /// Month 0 comes before all rows and month 13 after them.
+// No `Option`: months are ends of an interval here, and `None` would be a second way to say 13, or 0.
 #[derive(Clone, Copy)]
 pub struct YearMarks {
     pub counted_from: u64,

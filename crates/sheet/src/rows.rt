@@ -4,6 +4,7 @@ ghost use Rattle.sheet.specs.Rows as means;
 
 use crate::quantity::Kwh;
 use crate::row::{Booking, Marking, Row, YearMarks, YearRows};
+use std::array;
 
 impl Booking {
     // In 128 bits: a caller's kWh may be anything.
@@ -105,12 +106,7 @@ impl YearMarks {
 pub fn all_fit(rows: &[Row]) -> bool
     ensures { result ≡ means.all_fit rows.now }
 {
-    for row in rows {
-        if !row.fits() {
-            return false;
-        }
-    }
-    true
+    rows.iter().all(|row| row.fits())
 }
 
 /// The rows with the kWh booked into one month's row; none where there is no such month, or its row would hold
@@ -118,13 +114,12 @@ pub fn all_fit(rows: &[Row]) -> bool
 pub fn booked_in(rows: &YearRows, month: u64, booking: Booking) -> Option<YearRows>
     ensures { result ≡ means.booked_in month booking rows.now }
 {
-    if month < 1 || month > 12 {
+    if !(1..=12).contains(&month) {
         return None;
     }
     let i = month as usize - 1;
-    let row = rows[i].booked(booking)?;
     let mut next = *rows;
-    next[i] = row;
+    next[i] = rows[i].booked(booking)?;
     Some(next)
 }
 
@@ -132,22 +127,18 @@ pub fn booked_in(rows: &YearRows, month: u64, booking: Booking) -> Option<YearRo
 pub fn marked_after(old: &YearRows, month: u64, marking: Marking) -> YearRows
     ensures { result ≡ means.after_month month (means.marked marking) old.now }
 {
-    let mut next = *old;
-    for i in 0..12usize {
-        if i as u64 + 1 > month {
-            next[i] = next[i].marked(marking);
+    array::from_fn(|i| {
+        if i as u64 + 1 <= month {
+            old[i]
+        } else {
+            old[i].marked(marking)
         }
-    }
-    next
+    })
 }
 
 /// Twelve rows with no kWh and the given marks.
 pub fn blank_year(marks: YearMarks) -> YearRows
     ensures { result ≡ means.blank_year marks }
 {
-    let mut rows = [marks.row(0); 12];
-    for i in 0..12usize {
-        rows[i] = marks.row(i as u64 + 1);
-    }
-    rows
+    array::from_fn(|i| marks.row(i as u64 + 1))
 }

@@ -1,6 +1,6 @@
 //! The sums over the rows of a year's sheet.
-ghost use Rattle.std.specs.Prelude.{◌≡◌};
-ghost use Rattle.sheet.specs.Rows.{kwh_of};
+ghost use Rattle.std.specs.Prelude.{◌≡◌, ℕ, ◌+◌, ◌≤◌};
+ghost use Rattle.sheet.specs.Rows.{kwh};
 ghost use Rattle.sheet.specs.Sums as means;
 
 use crate::quantity::Kwh;
@@ -23,14 +23,16 @@ pub struct SixSums {
 pub fn is_heating(month: u64) -> bool
     ensures { result ≡ means.heating month }
 {
-    month == 12 || (1 <= month && month <= 4)
+    month == 12 || (1..=4).contains(&month)
 }
 
 impl Sheet {
     /// All the kWh of the twelve rows.
+    #[tactic(auto, using(crate::proofs::Adding::sum_more, crate::proofs::Adding::sum_end, crate::proofs::Adding::proper_of, crate::proofs::Adding::total_small, crate::proofs::Fitting::fits_at))]
     pub fn total(&self) -> Kwh
         ensures { result.kwh ≡ means.total self.now.rows }
     {
+        // The project's rules name this form, a `for` over the rows borrowed as a slice.
         let rows: &[Row] = &self.rows;
         let mut sum = 0;
         for row in rows {
@@ -39,58 +41,51 @@ impl Sheet {
         Kwh { kwh: sum }
     }
 
-    // The counted months, and the multi-person ones among them.
-    fn counted(&self) -> (u64, u64)
-        ensures { result ≡ (means.counted_months self.now.rows, means.multi_months self.now.rows) }
+    // The sum over the rows of what `adds` gives for a month and its row: at most the kWh of the row, or 1, so that the sum fits.
+    #[tactic(auto, using(crate::proofs::Adding::sum_more, crate::proofs::Adding::sum_end, crate::proofs::Fitting::fits_at))]
+    fn sum_of<F: Fn(u64, Row) -> u64>(&self, adds: F) -> u64
+        ghost f: { ℕ → Row → ℕ }
+        requires callable { F.IsAlwaysCallable adds }
+        requires gives { (month : _) (row : _) (n : _) → F.post adds month row n → n ≡ f month row }
+        requires small { (month : _) (row : _) → f month row ≤ kwh row + 1 }
+        ensures { result ≡ means.sum_from f 1 self.now.rows }
     {
-        let rows: &[Row] = &self.rows;
-        let mut counted = 0;
-        let mut multi = 0;
-        for row in rows {
-            if row.counted {
-                counted += 1;
-                if row.multi {
-                    multi += 1;
-                }
-            }
+        let mut added = 0;
+        for (i, row) in self.rows.iter().enumerate() {
+            added += adds(i as u64 + 1, *row);
         }
-        (counted, multi)
-    }
-
-    // Of the rows marked time of use, the peak kWh and the valley kWh of heating and of other months.
-    fn timed(&self) -> (Kwh, Kwh, Kwh)
-        ensures { result ≡ (kwh_of (means.timed_peak self.now.rows), kwh_of (means.timed_heating self.now.rows), kwh_of (means.timed_other self.now.rows)) }
-    {
-        let rows: &[Row] = &self.rows;
-        let mut peak = 0;
-        let mut heating = 0;
-        let mut other = 0;
-        for (i, row) in rows.iter().enumerate() {
-            if row.timed {
-                peak += row.peak.kwh;
-                if is_heating(i as u64 + 1) {
-                    heating += row.valley.kwh;
-                } else {
-                    other += row.valley.kwh;
-                }
-            }
-        }
-        (Kwh { kwh: peak }, Kwh { kwh: heating }, Kwh { kwh: other })
+        added
     }
 
     /// The six sums of the sheet.
     pub fn six_sums(&self) -> SixSums
         ensures { result ≡ means.six_sums self.now.rows }
     {
-        let (counted, multi) = self.counted();
-        let (peak, heating, other) = self.timed();
         SixSums {
-            counted,
-            multi,
+            counted: self.sum_of(|_, row| u64::from(row.counted)),
+            multi: self.sum_of(|_, row| u64::from(row.counted && row.multi)),
             total: self.total(),
-            peak,
-            heating,
-            other,
+            peak: Kwh {
+                kwh: self.sum_of(|_, row| if row.timed { row.peak.kwh } else { 0 }),
+            },
+            heating: Kwh {
+                kwh: self.sum_of(|month, row| {
+                    if row.timed && is_heating(month) {
+                        row.valley.kwh
+                    } else {
+                        0
+                    }
+                }),
+            },
+            other: Kwh {
+                kwh: self.sum_of(|month, row| {
+                    if row.timed && !is_heating(month) {
+                        row.valley.kwh
+                    } else {
+                        0
+                    }
+                }),
+            },
         }
     }
 }
