@@ -1,11 +1,8 @@
 -- What an answer of a ledger says of what it was asked. Assumes nothing.
-use Rattle.std.proofs.Common.{◌≡◌, ℕ, ◌<◌, ◌≤◌, Bool, true, false, cond, Ok, Err, Result, refl, ap, ◌∙◌, arith}
+use Rattle.std.proofs.Common.{◌≡◌, ℕ, ◌<◌, ◌≤◌, false, Ok, ap, ◌∙◌, arith}
 use Rattle.std.proofs.lemmas.Bool.Decides.{nat_tests}
-use Rattle.ledger.specs.declared.refusal.LedgerFault.{LedgerFault}
-use Rattle.ledger.specs.declared.refusal.LedgerFault.TheVariants.{Number}
 use Rattle.ledger.specs.declared.posting.Posting.{Posting}
-use Rattle.ledger.specs.Book.{Book, known, enrol_answer, post_answer, answer_about, with_line}
-use Rattle.ledger.specs.Lawful.{impossible}
+use Rattle.ledger.specs.Book.{Book, enrol_answer, post_answer, with_line}
 use Rattle.ledger.specs.Postings.{both_answer}
 
 -- what a granted posting says
@@ -24,11 +21,3 @@ starts top b n h = (grind (arith, nat_tests), grind (arith, nat_tests), grind (a
 -- where two lines can be posted and the first is, so can the second
 pub second_granted : (top : ℕ) (b m : Book) (p q : Posting) → Ok tt ≡ both_answer top b p q → m ≡ with_line b p → post_answer top m q ≡ Ok tt
 second_granted top b m p q h e = ap (λ (x : Book). post_answer top x q) e ∙ grind (arith, nat_tests)
-
-answered_by : {A B : Type 0} (k : Bool) (x y : A) (f : B) → ◌≡◌ {A = Result A LedgerFault} (Ok x) (cond k (Ok y) (Err Number)) → ◌≡◌ {A = Result B LedgerFault} (Ok f) (cond k (Ok f) (Err Number))
-answered_by true x y f h = refl
-answered_by false x y f h = impossible (cc)
-
--- where one question about a number is answered, so is any other
-pub answered_too : {A B : Type 0} (top : ℕ) (b : Book) (n : ℕ) (x y : A) (f : B) → Ok x ≡ answer_about top b n y → Ok f ≡ answer_about top b n f
-answered_too top b n x y f h = answered_by (known top b n) x y f h

@@ -1,17 +1,18 @@
 -- What a write to one row does to the book that the rows mean. Assumes nothing.
-use Rattle.std.proofs.Common.{◌≡◌, ℕ, ◌+◌, ◌-◌, ◌<◌, Bool, true, List, length, set, ℤ, ◌+ℤ◌, is_some, Some, None, Option, sym, refl, ap, ◌∙◌}
+use Rattle.std.proofs.Common.{◌≡◌, ℕ, ◌+◌, ◌-◌, ◌<◌, Bool, true, List, length, set, ℤ, ◌+ℤ◌, is_some, Some, Option, sym, refl, ap, ◌∙◌, arith}
 use Rattle.std.proofs.Math.Path.{fun_ext}
+use Rattle.std.proofs.lemmas.Grind.{common_steps}
 use Rattle.ledger.specs.declared.balance.Balance.{Balance}
 use Rattle.ledger.specs.declared.posting.Posting.{Posting}
 use Rattle.ledger.specs.Book.{Book, at, amount, with_line}
 use Rattle.ledger.specs.Rows.{count_of, sum_of, row, meant, grown}
-use Rattle.ledger.proofs.Changed.{at_map, at_same, indexed_set}
+use Rattle.ledger.proofs.Changed.{at_same}
 
 abbrev Rows : Type 0
 Rows = List (Option Balance)
 
 part_set : {B : Type 0} (f : Option Balance → B) (rows : Rows) (n : ℕ) (y : Option Balance) → 0 < n → n - 1 < length rows → (λ k. f (row (set rows (n - 1) y) k)) ≡ at (λ k. f (row rows k)) n (f y)
-part_set f rows n y p h = fun_ext (λ k. ap f (indexed_set rows n y None p h k) ∙ at_map f (row rows) n y k)
+part_set f rows n y p h = fun_ext (λ k. grind (arith, common_steps))
 
 pub same_book : {e e' : ℕ → Bool} {c c' : ℕ → ℕ} {s s' : ℕ → ℤ} {f f' : ℕ} → e ≡ e' → c ≡ c' → s ≡ s' → f ≡ f' → ◌≡◌ {A = Book} (record { enrolled = e; count = c; sum = s; free = f }) (record { enrolled = e'; count = c'; sum = s'; free = f' })
 same_book p q r t = λ i. record { enrolled = p i; count = q i; sum = r i; free = t i }

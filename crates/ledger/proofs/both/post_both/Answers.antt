@@ -15,10 +15,11 @@ returns g c =
     let asked = c.in_ok-check_both.ensures in
     let first = c.in_ok-post.ensures in
     let second = c.post-2.ensures in
-    let ok : c.post-2.result ≡ Ok tt = second.answer ∙ second_granted L.top (L.book c.args.ledger.now) _ p q asked first.after in
+    let b = L.book c.args.ledger.now in
+    let ok : c.post-2.result ≡ Ok tt = second.answer ∙ second_granted L.top b _ p q asked first.after in
     record {
       answer = ok ∙ asked;
-      after = rw ok ((rw ok at second.after) ∙ ap (λ b. with_line b q) first.after);
+      after = rw ok ((rw ok at second.after) ∙ ap (λ m. with_line m q) {y = with_line b p} first.after);
       records = rw ok (_, first.records, (_, rw ok at second.records, refl));
       runs = recorded_book L.wrote L.kept L.book L.tells L.keeps;
     }
