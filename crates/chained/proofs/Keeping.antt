@@ -65,8 +65,10 @@ module _ (l : ChainedLedger) (p : Posting) (asked : post_answer 200 (chained_boo
       let long : length (set l.table.now l.links.used (line_in l.table.now l.links.used p)) ≡ length l.table.now = length-set was c.used line in
       let heads = heads_more was c.used line fits c.heads low (omega arith) l.headed in
       let nexts = nexts_more was c.used line fits c.heads (sym (l.headed p.number)) l.headed l.nexts in
-      let counts : Counts (book_of b).count (set l.table.now l.links.used (line_in l.table.now l.links.used p)) (l.links.used + 1) = λ m. ap (λ (x : Book). x.count m) e ∙ sym (counts_step was c.used line fits old.count l.counted m) in
-      let sums : Sums fen_of (book_of b).sum (set l.table.now l.links.used (line_in l.table.now l.links.used p)) (l.links.used + 1) = λ m. ap (λ (x : Book). x.sum m) e ∙ sym (sums_step was c.used line fits fen_of old.sum l.summed m) in
-      subst (λ (x : List (Cell Entry)). Facts x k.used k.heads b) (sym w)
-      (subst (λ (h : List ℕ). Facts (set was c.used line) k.used h b) (sym moved.headed)
-      (subst (λ (u : ℕ). Facts (set was c.used line) u (set c.heads (p.number - 1) (c.used + 1)) b) (sym moved.more) (record { room = omega arith; headed = heads; nexts = nexts; counted = counts; summed = sums })))
+      rw (w, moved.headed, moved.more) (record {
+        room = omega arith;
+        headed = heads;
+        nexts = nexts;
+        counted = λ m. ap (λ (x : Book). x.count m) e ∙ sym (counts_step was c.used line fits old.count l.counted m);
+        summed = λ m. ap (λ (x : Book). x.sum m) e ∙ sym (sums_step was c.used line fits fen_of old.sum l.summed m);
+      })

@@ -5,12 +5,6 @@ use Rattle.std.proofs.lemmas.Bool.{eq-eqb, ne_eqb}
 use Rattle.std.proofs.lemmas.Grind.{common_steps}
 use Rattle.ledger.specs.Book.{at, indexed}
 
-pub at_here : {A : Type 0} (f : ℕ → A) (n : ℕ) (x : A) (k : ℕ) → k ≡ n → at f n x k ≡ x
-at_here f n x k e = ap (λ b. cond b x (f k)) (eq-eqb k n e)
-
-pub at_away : {A : Type 0} (f : ℕ → A) (n : ℕ) (x : A) (k : ℕ) → k ≢ n → at f n x k ≡ f k
-at_away f n x k e = ap (λ b. cond b x (f k)) (ne_eqb k n e)
-
 pub at_map : {A B : Type 0} (f : A → B) (g : ℕ → A) (n : ℕ) (x : A) (k : ℕ) → f (at g n x k) ≡ at (λ j. f (g j)) n (f x) k
 at_map f g n x k = grind (arith, common_steps)
 
