@@ -79,6 +79,7 @@ impl<'a> Ledger for ChainedLedger<'a> {
         Self::GREATEST
     }
 
+    // Four methods passed on in each ledger: a trait that provides them cannot have the size of `Balances` as a constant.
     fn free(&self) -> u64 {
         self.balances.free()
     }

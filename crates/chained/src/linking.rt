@@ -8,7 +8,7 @@ use crate::cell::Cell;
 use crate::links::{Links, NUMBERS};
 
 /// The greatest index of a record.
-const GREATEST_INDEX: usize = 65_535;
+const GREATEST_INDEX: usize = u16::MAX as usize;
 
 /// How many of a table's cells can be used: all, or 65,535 if that is less.
 pub fn room(cells: usize) -> usize

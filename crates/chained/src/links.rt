@@ -6,6 +6,7 @@ pub(crate) const NUMBERS: usize = 200;
 
 /// The chains of the account numbers 1 to 200: how many cells of the table are used, and the index of each number's
 /// newest record, 0 where it has none.
+// Plain indices, 0 for none, as in a cell: what a head says is written as the next index of a record.
 #[derive(Drop)]
 pub struct Links {
     pub(crate) used: usize,

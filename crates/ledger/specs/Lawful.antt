@@ -1,10 +1,10 @@
 -- Rows of balances keep to what every ledger's book keeps to. A proof, which stands here since a ghost member cites it.
-use Rattle.std.specs.Prelude.{◌≡◌, ℕ, zero, suc, ◌+◌, ◌-◌, ◌*◌, ◌<◌, ◌≤◌, true, false, cond, ◌&&◌, ltb, ◌⊎◌, List, length, take, is_some, Some, None, sum_by, Option, nat_lt, slice_index_or, unsigned_abs, refl}
-use Rattle.std.proofs.Common.{arith, add-zero, inl, inr, sym, ap, ap₂, ◌∙◌}
-use Rattle.std.proofs.lemmas.List.{get_or_past, take_all}
+use Rattle.std.specs.Prelude.{◌≡◌, ℕ, zero, suc, ◌-◌, ◌*◌, ◌≤◌, true, false, List, length, take, is_some, None, sum_by, Option, slice_index_or, unsigned_abs, refl}
+use Rattle.std.proofs.Common.{arith, inl, inr, sym, ap, ◌∙◌}
+use Rattle.std.proofs.lemmas.List.{take_all}
 use Rattle.std.proofs.lemmas.List.Sums.{sum_by_more, sum_by-take-le}
 use Rattle.std.proofs.lemmas.Grind.{common_steps}
-use Rattle.std.proofs.lemmas.Bool.{cases_lt, lt-ltb, le-ltb, le-leb}
+use Rattle.std.proofs.lemmas.Bool.{cases_lt}
 use Rattle.ledger.specs.declared.balance.Balance.{Balance}
 use Rattle.ledger.specs.declared.balances.Balances.{Balances}
 use Rattle.ledger.specs.Book.{upto, within, amount_limit, Lawful}

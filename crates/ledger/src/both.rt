@@ -9,6 +9,7 @@ use crate::posting::Posting;
 use crate::refusal::LedgerFault;
 
 /// Whether two lines can be posted, one after the other.
+// Two parameters and no array: each use would index it, as `pair[0].number`, and each caller build it.
 pub fn check_both<L: Ledger>(ledger: &L, first: Posting, second: Posting) -> Result<(), LedgerFault>
     ensures { result ≡ postings.both_answer L.Ledger.top (L.Ledger.book ledger.now) first second }
 {
