@@ -1,18 +1,12 @@
 -- The chains stay linked with one record more, and each is whole. Assumes nothing.
-use Rattle.std.proofs.Common.{◌≡◌, ℕ, zero, suc, ◌+◌, ◌-◌, ◌<◌, ◌≤◌, Bool, true, false, cond, eqb, List, [], ◌∷◌, length, get_or, set, replicate, ℤ, pos, Some, None, Option, unwrap_or, sym, refl, ap, ◌∙◌, subst, inl, inr, add-one, arith, Bor}
+use Rattle.std.proofs.Common.{◌≡◌, ℕ, zero, suc, ◌+◌, ◌-◌, ◌<◌, ◌≤◌, ◌⊎◌, List, [], ◌∷◌, length, set, ℤ, sym, ap, ◌∙◌, subst, inl, inr, add-one, arith}
 use Rattle.std.proofs.Math.Path.{fun_ext}
-use Rattle.std.specs.List.{slice_get, AllByRecursion}
-use Rattle.std.specs.Option.{option_map}
-use Rattle.std.specs.Slice.{IsGetResult}
-use Rattle.std.proofs.lemmas.Option.{slice_get_past, slice_get_read}
-use Rattle.std.proofs.lemmas.Bool.Decides.{nat_tests}
-use Rattle.std.proofs.lemmas.Bool.{cases_Bool, cases_lt, eqb-true, lt-ltb}
-use Rattle.ledger.specs.Book.{at, within}
-use Rattle.ledger.proofs.Changed.{indexed_set, indexed_same}
+use Rattle.std.specs.List.{AllByRecursion}
+use Rattle.std.proofs.lemmas.Bool.{cases_eq, cases_lt, eq-eqb, ne_eqb}
+use Rattle.ledger.specs.Book.{at}
+use Rattle.ledger.proofs.Changed.{indexed_set}
 use Rattle.chained.specs.declared.cell.Cell.{Cell}
-use Rattle.chained.specs.Chain.{number_at, next_at, amount_at, places, newest, newest_of, total, head, Heads, Nexts, Counts, Sums, ChainOf, Falling, Walk, ended, met}
-use Rattle.chained.specs.declared.links.Links.{Links}
-use Rattle.chained.specs.Linked.{cell_at}
+use Rattle.chained.specs.Chain.{number_at, next_at, places, newest, newest_of, head, Heads, Nexts, Counts, Sums, ChainOf, Falling, Walk, ended, met}
 use Rattle.chained.specs.Stepping.{field_old, field_new, number_old, places_same, of_places_step}
 
 module _ {R : Type 0} (t : List (Cell R)) (used : ℕ) (c : Cell R) (space : used < length t) where
@@ -30,31 +24,36 @@ module _ {R : Type 0} (t : List (Cell R)) (used : ℕ) (c : Cell R) (space : use
       let was = number_old t used c space in
       elim (cases_lt j used) [
         | inl lt ↦
-            field_old t used c space (λ (x : Cell R). x.next) 0 j lt ∙ old j lt
-            ∙ ap (λ k. newest (places (number_at t) k j)) (sym (was j lt))
-            ∙ ap newest (sym (places_same number (number_at t) (number j) j (λ i b. was i (omega arith))))
+            (let now = field_old t used c space (λ (x : Cell R). x.next) 0 j lt in
+            let before = old j lt in
+            let mine = was j lt in
+            let same = places_same number (number_at t) (number j) j (λ i b. was i (omega arith)) in
+            cc)
         | inr ge ↦
-            (let same : used ≡ j = omega arith in
-            subst (λ (i : ℕ). next i ≡ newest (places number (number i) i)) same
-            (field_new t used c space (λ (x : Cell R). x.next) 0 ∙ e ∙ all c.number
-            ∙ ap newest (sym (places_same number (number_at t) c.number used was))
-            ∙ ap (λ k. newest (places number k used)) (sym (field_new t used c space (λ (x : Cell R). x.number) 0))))
+            (let here : j ≡ used = omega arith in
+            let now = field_new t used c space (λ (x : Cell R). x.next) 0 in
+            let mine = field_new t used c space (λ (x : Cell R). x.number) 0 in
+            let first = all c.number in
+            let same = places_same number (number_at t) c.number used was in
+            cc)
       ]
+
+-- one place more is n's, or it is not
+places_suc : (number : ℕ → ℕ) (n b : ℕ) → ((number b ≡ n) × (places number n (suc b) ≡ b ∷ places number n b)) ⊎ (places number n (suc b) ≡ places number n b)
+unfolding places
+places_suc number n b = elim (cases_eq (number b) n) [ inl y ↦ inl (y, rw (eq-eqb (number b) n y)) | inr other ↦ inr (rw (ne_eqb (number b) n other)) ]
 
 -- from the newest of n's records among the first b, the walk meets exactly those
 pub walked : (number next : ℕ → ℕ) (used : ℕ) → Nexts number next used → (n b : ℕ) → b ≤ used → Walk next (newest (places number n b)) (places number n b)
 unfolding places
 walked number next used nexts n zero l = ended
 walked number next used nexts n (suc b) l =
-    let older = places number n b in
     let again = walked number next used nexts n b (omega arith) in
-    elim (cases_Bool (eqb (number b) n)) [
-      | inl y ↦
-          (let mine : number b ≡ n = eqb-true _ _ y in
-          let on : next b ≡ newest (places number n b) = nexts b (omega arith) ∙ ap (λ k. newest (places number k b)) mine in
-          subst (λ (v : Bool). Walk next (newest (cond v (b ∷ older) older)) (cond v (b ∷ older) older)) (sym y)
-          (met (subst (λ (i : ℕ). Walk next i older) (sym on) again)))
-      | inr other ↦ subst (λ (v : Bool). Walk next (newest (cond v (b ∷ older) older)) (cond v (b ∷ older) older)) (sym other) again
+    elim (places_suc number n b) [
+      | inl mine ↦
+          (let on : next b ≡ newest (places number n b) = nexts b (omega arith) ∙ ap (λ k. newest (places number k b)) mine.0 in
+          subst (λ js. Walk next (newest js) js) (sym mine.1) (met (subst (λ i. Walk next i (places number n b)) (sym on) again)))
+      | inr other ↦ subst (λ js. Walk next (newest js) js) (sym other) again
     ]
 
 -- all of them are n's
@@ -62,11 +61,10 @@ places_own : (number : ℕ → ℕ) (n b : ℕ) → AllByRecursion (λ j. number
 unfolding places
 places_own number n zero = tt
 places_own number n (suc b) =
-    let older = places number n b in
     let again = places_own number n b in
-    elim (cases_Bool (eqb (number b) n)) [
-      | inl y ↦ subst (λ (v : Bool). AllByRecursion (λ j. number j ≡ n) (cond v (b ∷ older) older)) (sym y) (eqb-true _ _ y, again)
-      | inr other ↦ subst (λ (v : Bool). AllByRecursion (λ j. number j ≡ n) (cond v (b ∷ older) older)) (sym other) again
+    elim (places_suc number n b) [
+      | inl mine ↦ subst (AllByRecursion (λ j. number j ≡ n)) (sym mine.1) (mine.0, again)
+      | inr other ↦ subst (AllByRecursion (λ j. number j ≡ n)) (sym other) again
     ]
 
 -- newest first
@@ -78,9 +76,11 @@ places_fall : (number : ℕ → ℕ) (n b : ℕ) → Falling b (places number n 
 unfolding places
 places_fall number n zero = tt
 places_fall number n (suc b) =
-    let older = places number n b in
     let again = places_fall number n b in
-    elim (eqb (number b) n) as (λ v. Falling (suc b) (cond v (b ∷ older) older)) [ true ↦ (omega arith, again) | false ↦ falling_up older b (suc b) (omega arith) again ]
+    elim (places_suc number n b) [
+      | inl mine ↦ subst (Falling (suc b)) (sym mine.1) (omega arith, again)
+      | inr other ↦ subst (Falling (suc b)) (sym other) (falling_up (places number n b) b (suc b) (omega arith) again)
+    ]
 
 pub chain_from : {R : Type 0} (amount : R → ℤ) (count : ℕ → ℕ) (sum : ℕ → ℤ) (t : List (Cell R)) (used n index : ℕ) → Nexts (number_at t) (next_at t) used → index ≡ newest_of t used n → Counts count t used → Sums amount sum t used → ChainOf amount t used n index (count n) (sum n)
 chain_from amount count sum t used n index nexts h counts sums = record {
@@ -90,38 +90,3 @@ chain_from amount count sum t used n index nexts h counts sums = record {
   many = sym (counts n);
   comes = sym (sums n);
 }
-
-head_is : (heads : List ℕ) (n : ℕ) → 0 < n → get_or heads (n - 1) 0 ≡ head heads n
-head_is heads n p = sym (ap (λ b. cond b (get_or heads (n - 1) 0) 0) (lt-ltb 0 n p))
-
--- with no record, any table will do
-no_places : (number : ℕ → ℕ) (n used : ℕ) → used ≡ 0 → places number n used ≡ []
-unfolding places
-no_places number n used z = ap (places number n) z
-
-pub none_heads : (heads : List ℕ) (number : ℕ → ℕ) (used k : ℕ) → heads ≡ replicate k 0 → used ≡ 0 → Heads heads number used
-none_heads heads number used k e z n = ap (λ h. head h n) e ∙ indexed_same k n 0 ∙ sym (ap newest (no_places number n used z))
-
-pub none_counts : {R : Type 0} (count : ℕ → ℕ) (t : List (Cell R)) (used : ℕ) → used ≡ 0 → count ≡ (λ _. 0) → Counts count t used
-none_counts count t used z e n = ap (λ f. f n) e ∙ sym (ap length (no_places (number_at t) n used z))
-
-pub none_sums : {R : Type 0} (amount : R → ℤ) (sum : ℕ → ℤ) (t : List (Cell R)) (used : ℕ) → used ≡ 0 → sum ≡ (λ _. pos 0) → Sums amount sum t used
-none_sums amount sum t used z e n = ap (λ f. f n) e ∙ sym (ap (total (amount_at amount t)) (no_places (number_at t) n used z))
-
--- what `get` finds at a place
-picked : {X : Type 0} (xs : List X) (i : ℕ) (r : Option (Bor X)) → IsGetResult xs i i r → option_map (λ x. x.now) r ≡ slice_get xs i
-picked xs i None e = sym (slice_get_past xs i e.3)
-picked xs i (Some x) e = sym (slice_get_read xs (length xs) i x.now refl e.3.0 e.1)
-
-pub cell_found : {R : Type 0} (l : Links) (t : List (Cell R)) (i : ℕ) (r : Option (Bor (Cell R))) → 0 < i → i ≤ l.used → IsGetResult t (i - 1) (i - 1) r → option_map (λ x. x.now) r ≡ cell_at l t i
-cell_found l t i r low high e =
-    let in_use : within l.used i ≡ true = grind (arith, nat_tests) in
-    picked t (i - 1) r e ∙ sym (ap (λ b. cond b (slice_get t (i - 1)) None) in_use)
-
-nth_or : (xs : List ℕ) (i d : ℕ) → unwrap_or (slice_get xs i) d ≡ get_or xs i d
-nth_or [] i d = refl
-nth_or (x ∷ xs) zero d = refl
-nth_or (x ∷ xs) (suc i) d = nth_or xs i d
-
-pub head_found : (heads : List ℕ) (n : ℕ) (r : Option (Bor ℕ)) → 0 < n → IsGetResult heads (n - 1) (n - 1) r → unwrap_or (option_map (λ x. x.now) r) 0 ≡ head heads n
-head_found heads n r low e = ap (λ o. unwrap_or o 0) (picked heads (n - 1) r e) ∙ nth_or heads (n - 1) 0 ∙ head_is heads n low

@@ -1,11 +1,11 @@
 -- What one record more does to the chains of a table. Proofs, which stand here since a ghost member cites them.
 use Rattle.std.specs.Prelude.{◌≡◌, ℕ, zero, suc, ◌+◌, ◌<◌, Bool, true, false, cond, List, ◌∷◌, map, length, get_or, ℤ, pos, ◌+ℤ◌, ◌==◌, slice_index_or, slice_set, refl}
-use Rattle.std.proofs.Common.{arith, add-one, inl, inr, sym, ap₂, ◌∙◌}
+use Rattle.std.proofs.Common.{arith, add-one, sym, ap₂, ◌∙◌}
 use Rattle.std.proofs.Math.Path.{ap, fun_ext}
 use Rattle.std.proofs.lemmas.List.{length-map, map-set, get_or-set_same, get_or-set_other}
-use Rattle.std.proofs.lemmas.Bool.{cases_eq, eq-eqb, ne_eqb}
+use Rattle.std.proofs.lemmas.Bool.Decides.{nat_tests}
 use Rattle.ledger.specs.Book.{at}
-use Rattle.ledger.proofs.Changed.{at_here, at_away, at_map}
+use Rattle.ledger.proofs.Changed.{at_map}
 use Rattle.chained.specs.declared.cell.Cell.{Cell}
 use Rattle.chained.specs.Chain.{number_at, amount_at, places, total, Counts, Sums}
 
@@ -26,11 +26,7 @@ total_same number f g n (suc b) h = total_cond (number b == n) f g b (places num
 
 -- a choice by number is a change at that number
 step : {A : Type 0} (x n m : ℕ) (g f : ℕ → A) → x ≡ n → cond (x == m) (g m) (f m) ≡ at f n (g n) m
-step x n m g f e =
-    elim (cases_eq m n) [
-      | inl s ↦ ap (λ b. cond b (g m) (f m)) (eq-eqb x m (e ∙ sym s)) ∙ ap g s ∙ sym (at_here f n (g n) m s)
-      | inr ne ↦ ap (λ b. cond b (g m) (f m)) (ne_eqb x m (λ s. ne (sym s ∙ e))) ∙ sym (at_away f n (g n) m ne)
-    ]
+step x n m g f e = grind (arith, nat_tests)
 
 module _ {R : Type 0} (t : List (Cell R)) (used : ℕ) (c : Cell R) (space : used < length t) where
   -- a field of a cell that was there, and of the new one

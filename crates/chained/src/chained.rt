@@ -5,7 +5,7 @@ ghost use Rattle.chained.specs.Chain as chain;
 ghost use Rattle.chained.specs.Linked as link;
 
 use crate::cell::Line;
-use crate::links::Links;
+use crate::links::{Links, NUMBERS};
 use ledger::balances::Balances;
 
 /// Enrols the numbers 1 to 200. The lines of each number are chained through the table, and its count and sum are those
@@ -14,7 +14,7 @@ use ledger::balances::Balances;
 pub struct ChainedLedger<'a> {
     pub(crate) table: &'a mut [Line],
     pub(crate) links: Links,
-    pub(crate) balances: Balances<200>,
+    pub(crate) balances: Balances<NUMBERS>,
     ghost room: { links.used + (book_of balances).free ≡ link.room (length table.now) },
     ghost headed: { chain.Heads links.heads (chain.number_at table.now) links.used },
     ghost nexts: { chain.Nexts (chain.number_at table.now) (chain.next_at table.now) links.used },

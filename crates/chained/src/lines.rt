@@ -12,7 +12,7 @@ ghost use Rattle.chained.specs.Telling.{wrote_tells};
 use crate::cell::Line;
 use crate::chained::ChainedLedger;
 use crate::linking::room;
-use crate::links::Links;
+use crate::links::{Links, NUMBERS};
 use ledger::balances::Balances;
 use ledger::ledger::Ledger;
 use ledger::posting::Posting;
@@ -57,7 +57,7 @@ impl<'a> ChainedLedger<'a> {
 }
 
 impl<'a> Ledger for ChainedLedger<'a> {
-    const GREATEST: u64 = 200;
+    const GREATEST: u64 = NUMBERS as u64;
 
     ghost top = { 200 };
 
@@ -79,6 +79,7 @@ impl<'a> Ledger for ChainedLedger<'a> {
         Self::GREATEST
     }
 
+    // Four methods passed on in each ledger: a trait that provides them cannot have the size of `Balances` as a constant.
     fn free(&self) -> u64 {
         self.balances.free()
     }

@@ -5,10 +5,10 @@ ghost use Rattle.chained.specs.Chain as chain;
 ghost use Rattle.chained.specs.Linked as link;
 
 use crate::cell::Cell;
-use crate::links::Links;
+use crate::links::{Links, NUMBERS};
 
 /// The greatest index of a record.
-const GREATEST_INDEX: usize = 65_535;
+const GREATEST_INDEX: usize = u16::MAX as usize;
 
 /// How many of a table's cells can be used: all, or 65,535 if that is less.
 pub fn room(cells: usize) -> usize
@@ -17,11 +17,11 @@ pub fn room(cells: usize) -> usize
     cells.min(GREATEST_INDEX)
 }
 
-/// Whether a number has a chain: 1 to 200.
+/// Whether a number has a chain.
 fn has_chain(number: u64) -> bool
     ensures { result ≡ within 200 number }
 {
-    1 <= number && number <= 200
+    (1..=NUMBERS as u64).contains(&number)
 }
 
 impl Links {
@@ -32,7 +32,7 @@ impl Links {
     {
         Links {
             used: 0,
-            heads: [0; 200],
+            heads: [0; NUMBERS],
         }
     }
 
@@ -64,19 +64,21 @@ impl Links {
     pub fn newest(&self, number: u64) -> u16
         ensures { result ≡ chain.head self.now.heads number }
     {
-        if number == 0 {
-            return 0;
-        }
-        self.heads.get(number as usize - 1).copied().unwrap_or(0)
+        number
+            .checked_sub(1)
+            .and_then(|i| self.heads.get(i as usize))
+            .copied()
+            .unwrap_or(0)
     }
 
     /// The cell of a table at an index, counted from 1; none where no record has that index.
     pub fn cell_at<R: Copy>(&self, table: &[Cell<R>], index: u16) -> Option<Cell<R>>
         ensures { result ≡ link.cell_at self.now table.now index }
     {
-        if index == 0 || index as usize > self.used {
+        let place = (index as usize).checked_sub(1)?;
+        if place >= self.used {
             return None;
         }
-        table.get(index as usize - 1).copied()
+        table.get(place).copied()
     }
 }

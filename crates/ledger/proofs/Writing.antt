@@ -1,10 +1,8 @@
 -- Steps done to a ledger one after the other. Assumes nothing.
-use Rattle.std.proofs.Common.{◌≡◌, ℕ, List, [], ◌∷◌, Ok, Err, sym, refl, ap, ◌∙◌, subst}
-use Rattle.ledger.specs.declared.refusal.LedgerFault.{LedgerFault}
+use Rattle.std.proofs.Common.{◌≡◌, ℕ, List, [], ◌∷◌, ap, ◌∙◌}
 use Rattle.ledger.specs.declared.posting.Posting.{Posting}
-use Rattle.ledger.specs.Book.{Book, Answer, with_number, with_line, did}
-use Rattle.ledger.specs.Lawful.{impossible}
-use Rattle.ledger.specs.Postings.{Step, enrols, posts, Recorded, book_after, steps_of}
+use Rattle.ledger.specs.Book.{Book, with_number, with_line}
+use Rattle.ledger.specs.Postings.{Step, enrols, posts, Recorded, book_after}
 
 -- the records tell the book
 pub recorded_book : {L : Type 0} (wrote : L → Posting → L → Type 0) (kept : L → ℕ → L → Type 0) (book : L → Book) → ((l : L) (p : Posting) (m : L) → wrote l p m → book m ≡ with_line (book l) p) → ((l : L) (n : ℕ) (m : L) → kept l n m → book m ≡ with_number (book l) n) → (l m : L) (steps : List Step) → Recorded wrote kept l steps m → book m ≡ book_after (book l) steps
@@ -13,17 +11,3 @@ recorded_book wrote kept book tells keeps l m (enrols n ∷ steps) a =
     recorded_book wrote kept book tells keeps a.0 m steps a.2 ∙ ap (λ (b : Book). book_after b steps) (keeps l n a.0 a.1)
 recorded_book wrote kept book tells keeps l m (posts p ∷ steps) a =
     recorded_book wrote kept book tells keeps a.0 m steps a.2 ∙ ap (λ (b : Book). book_after b steps) (tells l p a.0 a.1)
-
-module _ {L : Type 0} (wrote : L → Posting → L → Type 0) (kept : L → ℕ → L → Type 0) where
-  -- a refused call did no step
-  pub refused_none : (l : L) (steps : List Step) (r : Answer) (f : LedgerFault) → r ≡ Err f → Recorded wrote kept l (steps_of r steps) l
-  refused_none l steps r f e = subst (λ (a : Answer). Recorded wrote kept l (steps_of a steps) l) (sym e) refl
-
-  -- two granted postings, one after the other
-  pub wrote_both : (l m n : L) (p q : Posting) (r : Answer) → r ≡ Ok tt → wrote l p m → did r (wrote m q n) (n ≡ m) → Recorded wrote kept l (steps_of r (posts p ∷ posts q ∷ [])) n
-  wrote_both l m n p q (Ok _) e a b = (m, a, (n, b, refl))
-  wrote_both l m n p q (Err f) e a b = impossible (cc)
-
--- a granted call is not refused
-pub not_refused : {P : Type 0} (f : LedgerFault) → ◌≡◌ {A = Answer} (Err f) (Ok tt) → P
-not_refused f e = impossible (cc)

@@ -40,10 +40,7 @@ impl<const N: usize> Balances<N> {
         ensures row { result ≡ rowed.row self.now.rows number }
         ensures known { is_some result ≡ means.known N (book_of self.now) number }
     {
-        match place(number, N) {
-            Some(i) => self.rows[i],
-            None => None,
-        }
+        self.rows[place(number, N)?]
     }
 
     /// Whether a number is enrolled.
@@ -53,24 +50,25 @@ impl<const N: usize> Balances<N> {
         self.balance(number).is_some()
     }
 
+    /// What is kept of a number that is enrolled.
+    fn known(&self, number: u64) -> Result<Balance, LedgerFault>
+        ensures { result ≡ means.answer_about N (book_of self.now) number (record { count = (book_of self.now).count number; sum = record { fen = (book_of self.now).sum number } }) }
+    {
+        self.balance(number).ok_or(LedgerFault::Number)
+    }
+
     /// How many lines a number has.
     pub fn count(&self, number: u64) -> Result<u64, LedgerFault>
         ensures { result ≡ means.answer_about N (book_of self.now) number ((book_of self.now).count number) }
     {
-        match self.balance(number) {
-            Some(balance) => Ok(balance.count),
-            None => Err(LedgerFault::Number),
-        }
+        Ok(self.known(number)?.count)
     }
 
     /// What the lines of a number come to.
     pub fn sum(&self, number: u64) -> Result<Fen, LedgerFault>
         ensures { result ≡ means.answer_about N (book_of self.now) number (record { fen = (book_of self.now).sum number }) }
     {
-        match self.balance(number) {
-            Some(balance) => Ok(balance.sum),
-            None => Err(LedgerFault::Number),
-        }
+        Ok(self.known(number)?.sum)
     }
 
     /// Whether a number can be enrolled.
@@ -109,9 +107,7 @@ impl<const N: usize> Balances<N> {
     pub fn check_post(&self, posting: Posting) -> Result<(), LedgerFault>
         ensures { result ≡ means.post_answer N (book_of self.now) posting }
     {
-        if self.balance(posting.number).is_none() {
-            return Err(LedgerFault::Number);
-        }
+        self.known(posting.number)?;
         if !payable(posting) {
             return Err(LedgerFault::Amount);
         }
@@ -129,7 +125,7 @@ impl<const N: usize> Balances<N> {
         let old = self.balance(posting.number).unwrap();
         let new = old.grown(posting.entry.fen);
         self.rows[posting.number as usize - 1] = Some(new);
-        self.free = one_fewer(self.free);
+        self.free -= 1;
     }
 
     /// Posts a line: counts it and adds its amount.
@@ -167,21 +163,10 @@ pub fn payable(posting: Posting) -> bool
     posting.entry.fen.fen.unsigned_abs() <= AMOUNT_LIMIT
 }
 
-/// What is free when one line is taken.
-fn one_fewer(free: u64) -> u64
-    requires { 0 < free }
-    ensures { result ≡ free - 1 }
-{
-    free - 1
-}
-
 /// The place of a number's row among `n`.
 fn place(number: u64, n: usize) -> Option<usize>
     ensures { result ≡ rowed.place number n }
 {
-    if number == 0 || number > n as u64 {
-        None
-    } else {
-        Some(number as usize - 1)
-    }
+    let i = number.checked_sub(1)?;
+    (i < n as u64).then_some(i as usize)
 }

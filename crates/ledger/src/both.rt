@@ -1,6 +1,5 @@
 //! Two lines or none, in any ledger.
 ghost use Rattle.std.specs.Prelude.{◌≡◌, List, [], ◌∷◌};
-ghost use Rattle.ledger.specs.Book as means;
 ghost use Rattle.ledger.specs.Postings as postings;
 ghost use Rattle.ledger.specs.Postings.{Step, posts};
 
@@ -9,20 +8,13 @@ use crate::ledger::Ledger;
 use crate::posting::Posting;
 use crate::refusal::LedgerFault;
 
-/// Whether a number is from 1 to the greatest, and enrolled.
-fn known<L: Ledger>(ledger: &L, number: u64) -> bool
-    ensures { result ≡ means.known L.Ledger.top (L.Ledger.book ledger.now) number }
-{
-    ledger.count(number).is_ok()
-}
-
 /// Whether two lines can be posted, one after the other.
+// Two parameters and no array: each use would index it, as `pair[0].number`, and each caller build it.
 pub fn check_both<L: Ledger>(ledger: &L, first: Posting, second: Posting) -> Result<(), LedgerFault>
     ensures { result ≡ postings.both_answer L.Ledger.top (L.Ledger.book ledger.now) first second }
 {
-    if !known(ledger, first.number) || !known(ledger, second.number) {
-        return Err(LedgerFault::Number);
-    }
+    ledger.count(first.number)?;
+    ledger.count(second.number)?;
     if !payable(first) || !payable(second) {
         return Err(LedgerFault::Amount);
     }

@@ -10,10 +10,13 @@ use crate::posting::Posting;
 use crate::refusal::LedgerFault;
 use sheet::quantity::Fen;
 
+/// The greatest account number.
+const NUMBERS: usize = 64;
+
 /// Counts and sums of the numbers 1 to 64.
 #[derive(Drop)]
 pub struct CountingLedger {
-    balances: Balances<64>,
+    balances: Balances<NUMBERS>,
 }
 
 impl CountingLedger {
@@ -28,7 +31,7 @@ impl CountingLedger {
 }
 
 impl Ledger for CountingLedger {
-    const GREATEST: u64 = 64;
+    const GREATEST: u64 = NUMBERS as u64;
 
     ghost top = { 64 };
 
@@ -51,6 +54,7 @@ impl Ledger for CountingLedger {
         Self::GREATEST
     }
 
+    // Four methods passed on in each ledger: a trait that provides them cannot have the size of `Balances` as a constant.
     fn free(&self) -> u64 {
         self.balances.free()
     }

@@ -24,6 +24,7 @@ pub enum Cause {
 
 impl Cause {
     /// The letter that stands for it.
+    // No `From<Cause> for char`, which is no shorter: the method's name says which char it is.
     pub fn letter(self) -> char
         ensures { result ≡ letter self }
     {

@@ -1,29 +1,22 @@
-use Rattle.std.proofs.Common.{◌≡◌, min, length, refl, ap, ◌∙◌, arith}
-use Rattle.ledger.specs.Book.{blank, line_limit}
-use Rattle.chained.specs.Lines.{filled}
-use Rattle.chained.specs.Linked.{room}
+use Rattle.std.proofs.Common.{length, sym, ap, ◌∙◌}
+use Rattle.ledger.specs.Book.{Book}
+use Rattle.ledger.proofs.Changed.{indexed_same}
+use Rattle.chained.specs.Chain.{number_at, amount_at, places, newest, total, head}
+use Rattle.chained.specs.Lines.{filled, fen_of}
 use Rattle.chained.proofs.Filling.{cells_after, same_lent}
-use Rattle.chained.proofs.Keeping.{none_facts}
 use Rattle.chained.proofs.chained.ChainedLedger.new.Goals as goal
 
-pub invariant_of-result : goal.invariant_of-result
-invariant_of-result c =
-    let links = c.new.ensures in
-    let cells = c.room-free.ensures in
-    let k = none_facts c.args.table.now c.new.result c.new-2.result (min c.room-free.result line_limit) links.heads links.used c.new-2.ensures (omega arith) in
-    record { room = k.room; headed = k.headed; nexts = k.nexts; counted = k.counted; summed = k.summed }
+pub invariant_of-result-clause-headed : goal.invariant_of-result-clause-headed
+unfolding places
+invariant_of-result-clause-headed c = λ n. ap (λ h. head h n) c.new.ensures.heads ∙ indexed_same 200 n 0 ∙ sym (ap (λ u. newest (places (number_at c.args.table.now) n u)) c.new.ensures.used)
 
-pub returns : goal.returns
-returns c =
-    let t = c.args.table.now in
-    let links = c.new.ensures in
-    let cells = c.room-free.ensures in
-    let free : min c.room-free.result line_limit ≡ room (length c.args.table.now) = omega arith in
-    record {
-      book = c.new-2.ensures ∙ ap blank free;
-      used = links.used;
-      heads = links.heads;
-      table = refl;
-      lent = refl;
-      lender = λ m steps a. (cells_after _ m steps a ∙ ap (λ u. filled t u steps) links.used, same_lent _ m steps a);
-    }
+pub invariant_of-result-clause-counted : goal.invariant_of-result-clause-counted
+unfolding places
+invariant_of-result-clause-counted c = λ n. ap (λ (b : Book). b.count n) c.new-2.ensures ∙ sym (ap (λ u. length (places (number_at c.args.table.now) n u)) c.new.ensures.used)
+
+pub invariant_of-result-clause-summed : goal.invariant_of-result-clause-summed
+unfolding places
+invariant_of-result-clause-summed c = λ n. ap (λ (b : Book). b.sum n) c.new-2.ensures ∙ sym (ap (λ u. total (amount_at fen_of c.args.table.now) (places (number_at c.args.table.now) n u)) c.new.ensures.used)
+
+pub returns-clause-lender : goal.returns-clause-lender
+returns-clause-lender c = λ m steps a. (cells_after _ m steps a ∙ ap (λ u. filled c.args.table.now u steps) c.new.ensures.used, same_lent _ m steps a)
