@@ -17,12 +17,7 @@ impl fmt::Display for UnitsAsYuan {
 
     fn fmt<W: fmt::Write>(&self, f: &mut fmt::Formatter<W>) -> fmt::Result {
         let units = self.0.units;
-        let whole = units / 10_000;
-        let a = units / 1_000 % 10;
-        let b = units / 100 % 10;
-        let c = units / 10 % 10;
-        let d = units % 10;
-        write!(f, "{whole}.{a}{b}{c}{d}")
+        write!(f, "{}.{:04}", units / 10_000, units % 10_000)
     }
 }
 
@@ -37,10 +32,7 @@ impl fmt::Display for FenAsYuan {
         let fen = self.0.fen;
         let sign = if fen < 0 { "-" } else { "" };
         let size = fen.unsigned_abs();
-        let whole = size / 100;
-        let a = size / 10 % 10;
-        let b = size % 10;
-        write!(f, "{sign}{whole}.{a}{b}")
+        write!(f, "{sign}{}.{:02}", size / 100, size % 100)
     }
 }
 
