@@ -1,9 +1,11 @@
 -- The lines of a bill by their place.
-use Rattle.std.proofs.Common.{◌≡◌, ℕ, zero, suc, ◌+◌, ◌-◌, ◌<◌, ◌≤◌, List, [], ◌∷◌, ◌++◌, length, get_or, take, Some, None, Option, IfSome, is_some, nat_eq, ◌≢◌, sym, refl, ap, ◌∙◌, ap₂, append_assoc, append-nil, arith, length-append}
+use Rattle.std.proofs.Common.{◌≡◌, ℕ, zero, suc, ◌+◌, ◌-◌, ◌<◌, ◌≤◌, List, [], ◌∷◌, ◌++◌, length, get_or, take, drop, MatchOption, Some, None, Option, IfSome, is_some, nat_eq, ◌≢◌, sym, refl, ap, ◌∙◌, ap₂, append_assoc, append-nil, arith, length-append, rules}
+use Rattle.std.specs.Iterator.{YieldsFirst, MakesProgress, item_count}
 use Rattle.std.proofs.lemmas.Bool.{eqb-true, eqb-false}
-use Rattle.std.proofs.lemmas.List.{take_more}
-use Rattle.std.proofs.lemmas.Option.{slice_get-get_or, slice_get_read}
-use Rattle.std.specs.List.{slice_get}
+use Rattle.std.proofs.lemmas.List.{take_more, at_drop_all, drop_more}
+use Rattle.std.proofs.Math.Seq.{take-nil}
+use Rattle.std.proofs.lemmas.Option.{slice_get-get_or, slice_get_read, slice_get_within, get_or_from_slice_get}
+use Rattle.std.specs.List.{slice_get, slice_range}
 use Rattle.sheet.specs.Rows.{kwh, kwh_of, numbered}
 use Rattle.sheet.specs.Sums.{total}
 use Rattle.sheet.specs.declared.quantity.Kwh.{Kwh}
@@ -70,19 +72,32 @@ line_end rows k twelve h = sym (numbered_past month_line 1 rows (Total (kwh_of (
 
 -- ---- a page, line after line
 
-page_push : (xs : List Line) (x : Line) → page (xs ++ x ∷ []) ≡ page xs ++ (line x ++ (10 ∷ []))
+pub page_push : (xs : List Line) (x : Line) → page (xs ++ x ∷ []) ≡ page xs ++ (line x ++ (10 ∷ []))
 unfolding page
 page_push [] x = append-nil _
 page_push (l ∷ ls) x = ap (λ bs. (line l ++ (10 ∷ [])) ++ bs) (page_push ls x) ∙ sym (append_assoc (line l ++ (10 ∷ [])) (page ls) (line x ++ (10 ∷ [])))
 
-pub page_more : (ls : List Line) (k : ℕ) (x : Line) → k < length ls → Some x ≡ slice_get ls k → page (take (k + 1) ls) ≡ page (take k ls) ++ (line x ++ (10 ∷ []))
-page_more ls k x h e =
-    let at : Some x ≡ Some (get_or ls k x) = e ∙ slice_get-get_or ls k x h in
-    let is : x ≡ get_or ls k x = cc in
-    ap page (take_more ls k x h) ∙ ap (λ (y : Line). page (take k ls ++ y ∷ [])) (sym is) ∙ page_push (take k ls) x
+-- ---- a walk over all lines
 
-pub no_line : {X : Type 0} (ls : List Line) (k : ℕ) (x : Line) → k < length ls → None ≡ slice_get ls k → X
-no_line ls k x h e =
-    let at : None ≡ Some (get_or ls k x) = e ∙ slice_get-get_or ls k x h in
-    let z : ◌≡◌ {A = ℕ} 0 1 = cc in
-    absurd (omega arith)
+slice_get_none : (xs : List Line) (k : ℕ) → slice_get xs k ≡ None → length xs ≤ k
+slice_get_none [] k h = omega arith
+slice_get_none (x ∷ xs) zero h = cc
+slice_get_none (x ∷ xs) (suc k) h = let rest = slice_get_none xs k h in omega arith
+
+pub walked : (all : List Line) (from to next end : ℕ) (o : Option Line) → from < to → next ≡ from + 1 → end ≡ to → o ≡ slice_get all from
+    → MatchOption o ((slice_range all from to ≡ []) × (slice_range all next end ≡ [])) (λ x. slice_range all from to ≡ x ∷ slice_range all next end)
+walked all from to next end None h step same at =
+    let past : length all ≤ from = slice_get_none all from (sym at) in
+    (at_drop_all (λ l. take (to - from) l) all from past ∙ take-nil (to - from), at_drop_all (λ l. take (end - next) l) all next (omega arith) ∙ take-nil (end - next))
+walked all from to next end (Some x) h step same at =
+    let room : from < length all = slice_get_within all from x (sym at) in
+    let is : get_or all from x ≡ x = get_or_from_slice_get all from x x (sym at) in
+    let left : to - from ≡ suc (end - next) = omega arith in
+    ap₂ (λ n (l : List Line). take n l) left (drop_more all from x room)
+    ∙ ap₂ (λ (y : Line) k. y ∷ take (end - next) (drop k all)) is (sym step)
+
+pub walk_goes : {S A : Type 0} (rest : S → List A) (s t : S) (r : Option A) → YieldsFirst rest s r t → MakesProgress (λ _. Unit {0}) (item_count rest) s r t
+walk_goes rest s t None h = search rules
+walk_goes rest s t (Some x) h =
+    let size : length (rest s) ≡ length (rest t) + 1 = ap length h ∙ omega arith in
+    search (rules, arith)

@@ -45,10 +45,7 @@ impl fmt::Display for Reach {
 
     fn fmt<W: fmt::Write>(&self, f: &mut fmt::Formatter<W>) -> fmt::Result {
         match self.0 {
-            Some(limit) => {
-                let kwh = limit.kwh;
-                write!(f, "up to {kwh} kWh")
-            }
+            Some(limit) => write!(f, "up to {} kWh", limit.kwh),
             None => write!(f, "the rest"),
         }
     }
@@ -60,32 +57,24 @@ impl fmt::Display for Line {
     fn fmt<W: fmt::Write>(&self, f: &mut fmt::Formatter<W>) -> fmt::Result {
         match *self {
             Line::Month { month, kwh, multi } => {
-                let kwh = kwh.kwh;
-                if multi {
-                    write!(f, "month {month}: {kwh} kWh, multi-person")
-                } else {
-                    write!(f, "month {month}: {kwh} kWh")
-                }
+                let note = if multi { ", multi-person" } else { "" };
+                write!(f, "month {month}: {} kWh{note}", kwh.kwh)
             }
-            Line::Total { kwh } => {
-                let kwh = kwh.kwh;
-                write!(f, "year: {kwh} kWh")
-            }
-            Line::Tier { tier, share } => {
-                let reach = Reach(share.limit);
-                let kwh = share.kwh.kwh;
-                let price = UnitsAsYuan(share.price);
-                let charge = UnitsAsYuan(share.charge);
-                write!(
-                    f,
-                    "tier {tier} ({reach}): {kwh} kWh at {price} yuan = {charge} yuan"
-                )
-            }
-            Line::Sum { charge, fen } => {
-                let charge = UnitsAsYuan(charge);
-                let cash = FenAsYuan(fen);
-                write!(f, "sum: {charge} yuan, to pay {cash} yuan")
-            }
+            Line::Total { kwh } => write!(f, "year: {} kWh", kwh.kwh),
+            Line::Tier { tier, share } => write!(
+                f,
+                "tier {tier} ({}): {} kWh at {} yuan = {} yuan",
+                Reach(share.limit),
+                share.kwh.kwh,
+                UnitsAsYuan(share.price),
+                UnitsAsYuan(share.charge)
+            ),
+            Line::Sum { charge, fen } => write!(
+                f,
+                "sum: {} yuan, to pay {} yuan",
+                UnitsAsYuan(charge),
+                FenAsYuan(fen)
+            ),
         }
     }
 }
@@ -94,10 +83,8 @@ impl fmt::Display for Bill {
     ghost output = { λ b. Some (texts.page (lines b.sheet.rows)) };
 
     fn fmt<W: fmt::Write>(&self, f: &mut fmt::Formatter<W>) -> fmt::Result {
-        for k in 0..self.len() {
-            if let Some(line) = self.line(k) {
-                write!(f, "{line}\n")?;
-            }
+        for line in self.lines() {
+            writeln!(f, "{line}")?;
         }
         Ok(())
     }
