@@ -2,7 +2,7 @@
 use Rattle.std.proofs.Common.{◌≡◌, ℕ, ◌+◌, ◌-◌, ◌<◌, ◌≤◌, ◌≢◌, List, [], map, length, get_or, set, take, None, Some, Ok, Err, Option, Result, sym, ap, ◌∙◌, subst, arith, get_or-set_other, get_or-set_same, below_more}
 use Rattle.std.specs.Option.{ok_or}
 use Rattle.std.specs.Result.{IsErrAnd}
-use Rattle.std.proofs.lemmas.List.{get_or-map, get_or-take, length-take, length-map, take-map}
+use Rattle.std.proofs.lemmas.List.{get_or-map, get_or-take, length-take, take-map}
 use Rattle.sheet.specs.Rows.{kwh_of}
 use Rattle.sheet.specs.declared.quantity.Kwh.{Kwh as Quantity}
 use Rattle.bill.specs.Arguments.{Writes, Read, Months, SomeMonths, Fault}

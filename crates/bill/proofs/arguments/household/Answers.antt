@@ -1,5 +1,5 @@
-use Rattle.std.proofs.Common.{◌≡◌, ◌≤◌, List, map, length, take, get_or, Some, None, String, Global, string_bytes, sym, ◌∙◌, ap, arith}
-use Rattle.std.proofs.lemmas.List.{length-map, take-map, get_or-drop}
+use Rattle.std.proofs.Common.{List, get_or, Some, None, String, Global, string_bytes, ◌∙◌, ap, arith}
+use Rattle.std.proofs.lemmas.List.{length-map, get_or-drop}
 use Rattle.bill.specs.declared.household.ArgumentFault.TheVariants.{Month}
 use Rattle.bill.proofs.Argued.{read_at, refused, refused_or, first_of, first_months, first_fault, some_months}
 use Rattle.bill.proofs.arguments.household.Goals as goal

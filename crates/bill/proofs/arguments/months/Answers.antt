@@ -1,8 +1,5 @@
-use Rattle.std.proofs.Common.{◌≡◌, ◌+◌, map, length, None, Some, MatchResult, List, string_bytes, refl, sym, subst, ◌∙◌, ap, arith, length-set}
+use Rattle.std.proofs.Common.{◌≡◌, ◌+◌, map, length, None, Some, string_bytes, ◌∙◌, arith, length-set}
 use Rattle.std.proofs.lemmas.List.{length-map}
-use Rattle.sheet.specs.declared.quantity.Kwh.{Kwh as Quantity}
-use Rattle.bill.specs.Arguments.{Months, Fault}
-use Rattle.bill.specs.declared.household.ArgumentFault.{ArgumentFault}
 use Rattle.bill.specs.declared.household.ArgumentFault.TheVariants.{Kwh}
 use Rattle.bill.proofs.Argued.{read_at, refused_or, months_more, month_fault}
 use Rattle.bill.proofs.arguments.months.Goals as goal

@@ -1,5 +1,5 @@
-use Rattle.std.proofs.Common.{◌≡◌, ◌≤◌, length, Some, List, get_or, sym, ap, ◌∙◌, subst, arith}
-use Rattle.sheet.specs.Rows.{kwh, kwh_of, none}
+use Rattle.std.proofs.Common.{◌≡◌, length, Some, List, get_or, ap, ◌∙◌, arith}
+use Rattle.sheet.specs.Rows.{kwh_of, none}
 use Rattle.sheet.specs.declared.row.Row.{Row}
 use Rattle.sheet.proofs.Fitting.{fits_at}
 use Rattle.bill.specs.declared.lines.Line.TheVariants.{Total}
