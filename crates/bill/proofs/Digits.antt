@@ -56,8 +56,8 @@ two : (n : ℕ) → styled_decimal (format_spec 32 0 4 2 (2 ^ 64 - 1)) n ≡ fil
 unfolding padded_integral char_count
 two n = simp (append-nil, sub-zero)
 
-pub yuan_from_units : (u : ℕ) → decimal (u / 10000) ++ (46 ∷ styled_decimal (format_spec 32 0 4 4 (2 ^ 64 - 1)) (u % 10000)) ≡ units_as_yuan u
-yuan_from_units u =
+pub last_four : (u : ℕ) → styled_decimal (format_spec 32 0 4 4 (2 ^ 64 - 1)) (u % 10000) ≡ decimal (u / 1000 % 10) ++ (decimal (u / 100 % 10) ++ (decimal (u / 10 % 10) ++ decimal (u % 10)))
+last_four u =
     let m = u % 10000 in
     let e : m / 10 / 10 / 10 ≡ u / 1000 % 10 = omega arith in
     let f : m / 10 / 10 % 10 ≡ u / 100 % 10 = omega arith in
@@ -65,10 +65,9 @@ yuan_from_units u =
     let h : m % 10 ≡ u % 10 = omega arith in
     rw (four (u % 10000), filled_four (u % 10000) (omega arith), e, f, g, h)
 
-pub yuan_from_fen : (z : ℤ) → sign z ++ (decimal (unsigned_abs z / 100) ++ (46 ∷ styled_decimal (format_spec 32 0 4 2 (2 ^ 64 - 1)) (unsigned_abs z % 100))) ≡ fen_as_yuan z
-yuan_from_fen z =
-    let u = unsigned_abs z in
-    let m = unsigned_abs z % 100 in
+pub last_two : (u : ℕ) → styled_decimal (format_spec 32 0 4 2 (2 ^ 64 - 1)) (u % 100) ≡ decimal (u / 10 % 10) ++ decimal (u % 10)
+last_two u =
+    let m = u % 100 in
     let e : m / 10 ≡ u / 10 % 10 = omega arith in
     let f : m % 10 ≡ u % 10 = omega arith in
-    rw (two (unsigned_abs z % 100), filled_two (unsigned_abs z % 100) (omega arith), e, f)
+    rw (two (u % 100), filled_two (u % 100) (omega arith), e, f)

@@ -15,6 +15,7 @@ pub struct UnitsAsYuan(pub Units);
 impl fmt::Display for UnitsAsYuan {
     ghost output = { λ y. Some (texts.units_as_yuan y.0.units) };
 
+    #[tactic(auto, using(crate::proofs::Digits::last_four))]
     fn fmt<W: fmt::Write>(&self, f: &mut fmt::Formatter<W>) -> fmt::Result {
         let units = self.0.units;
         write!(f, "{}.{:04}", units / 10_000, units % 10_000)
@@ -28,6 +29,7 @@ pub struct FenAsYuan(pub Fen);
 impl fmt::Display for FenAsYuan {
     ghost output = { λ y. Some (texts.fen_as_yuan y.0.fen) };
 
+    #[tactic(auto, using(crate::proofs::Digits::last_two))]
     fn fmt<W: fmt::Write>(&self, f: &mut fmt::Formatter<W>) -> fmt::Result {
         let fen = self.0.fen;
         let sign = if fen < 0 { "-" } else { "" };
