@@ -80,6 +80,7 @@ impl Bill {
     }
 
     /// How many lines it has.
+    #[tactic(auto, using(crate::proofs::Listed::length_numbered))]
     pub fn len(&self) -> usize
         ensures { result ≡ length (lines self.now.sheet.rows) }
     {
@@ -88,6 +89,7 @@ impl Bill {
     }
 
     /// Its lines: each month, the year's kWh, each tier, the sum. None past the last.
+    #[tactic(auto, using(crate::proofs::Listed::line_month, crate::proofs::Listed::line_total, crate::proofs::Listed::line_end))]
     pub fn line(&self, k: usize) -> Option<Line>
         ensures { result ≡ slice_get (lines self.now.sheet.rows) k }
     {

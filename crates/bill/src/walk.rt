@@ -22,6 +22,7 @@ impl Iterator for Lines<'_> {
 
     ghost remaining = { item_count to_come };
 
+    #[tactic(auto, using(crate::proofs::Listed::walked, crate::proofs::Listed::walk_goes))]
     fn next(&mut self) -> Option<Line> {
         self.bill.line(self.places.next()?)
     }

@@ -11,5 +11,4 @@ loop-i-preserved c =
     bought_more c.args.self.now.kwh c.loop-i.i c.loop-i.rows (Some c.in_ok-rows.rows) (omega arith) c.in_ok-rows.ensures ∙ c.loop-i.invariant
 
 pub returns : goal.returns
-returns c =
-    sym (bought_end c.args.self.now.kwh c.loop-i.i c.loop-i.rows (omega arith)) ∙ c.loop-i.invariant
+returns c = sym (bought_end c.args.self.now.kwh c.loop-i.i c.loop-i.rows (omega arith)) ∙ c.loop-i.invariant
