@@ -1,12 +1,13 @@
 -- The arguments of a command line, one after the other.
-use Rattle.std.proofs.Common.{◌≡◌, ℕ, ◌+◌, ◌-◌, ◌<◌, ◌≤◌, ◌≢◌, List, [], map, length, get_or, set, take, None, Some, Ok, Err, Option, Result, sym, ap, ◌∙◌, subst, arith, get_or-set_other, get_or-set_same, below_more}
+use Rattle.std.proofs.Common.{◌≡◌, ℕ, ◌+◌, ◌-◌, ◌<◌, ◌≤◌, ◌≢◌, List, [], map, length, get_or, set, take, drop, None, Some, Ok, Err, Option, Result, sym, ap, ◌∙◌, subst, arith, get_or-set_other, get_or-set_same, below_more}
 use Rattle.std.specs.Option.{ok_or}
 use Rattle.std.specs.Result.{IsErrAnd}
-use Rattle.std.proofs.lemmas.List.{get_or-map, get_or-take, length-take, take-map}
+use Rattle.std.proofs.lemmas.List.{get_or-map, get_or-take, get_or-drop, length-take, length-map, take-map}
 use Rattle.sheet.specs.Rows.{kwh_of}
 use Rattle.sheet.specs.declared.quantity.Kwh.{Kwh as Quantity}
-use Rattle.bill.specs.Arguments.{Writes, Read, Months, SomeMonths, Fault}
+use Rattle.bill.specs.Arguments.{Writes, Read, Months, SomeMonths, Fault, Parsed}
 use Rattle.bill.specs.declared.household.ArgumentFault.{ArgumentFault}
+use Rattle.bill.specs.declared.household.Household.{Household}
 use Rattle.bill.specs.declared.household.ArgumentFault.TheVariants.{Count, Kwh, Month}
 
 -- what was read of the bytes of an argument is read of its place
@@ -46,21 +47,34 @@ month_fault arguments i kwh size h before none =
 
 -- ---- what the first twelve arguments give is what all of them give
 
-pub first_of : {X : Type 0} (f : X → List ℕ) (xs ys : List X) → xs ≡ take 12 ys → map f xs ≡ take 12 (map f ys)
-first_of f xs ys is = ap (map f) is ∙ sym (take-map f 12 ys)
+module _ {X : Type 0} (f : X → List ℕ) (year rest all : List X) (parts : (year ≡ take 12 all) × (rest ≡ drop 12 all) × (length rest + 12 ≡ length all)) where
+  same : (k : ℕ) → k < 12 → get_or (map f year) k [] ≡ get_or (map f all) k []
+  same k h = ap (λ (l : List X). get_or (map f l) k []) parts.0 ∙ ap (λ (l : List (List ℕ)). get_or l k []) (sym (take-map f 12 all)) ∙ get_or-take 12 (map f all) k [] h
 
-pub first_months : (year arguments : List (List ℕ)) (kwh : List Quantity) → year ≡ take 12 arguments → Months year 12 kwh → Months arguments 12 kwh
-first_months year arguments kwh is m k h = subst (λ w. Writes 0 999999 w (get_or kwh k (kwh_of 0)).kwh) (ap (λ (xs : List (List ℕ)). get_or xs k []) is ∙ get_or-take 12 arguments k [] h) (m k h)
+  pub how_many : length (map f all) ≡ length rest + 12
+  how_many = length-map all f ∙ sym parts.2
 
-pub first_fault : (year arguments : List (List ℕ)) (e : ArgumentFault) → year ≡ take 12 arguments → 12 ≤ length arguments → length arguments ≤ 13 → Fault year e → Fault arguments e
-first_fault year arguments (Count n) is low high (a, b, c) = let size : length year ≡ length (take 12 arguments) = ap length is in absurd (omega (arith, length-take 12 arguments))
-first_fault year arguments Month is low high (a, b, c) = let size : length year ≡ length (take 12 arguments) = ap length is in absurd (omega (arith, length-take 12 arguments))
-first_fault year arguments (Kwh m) is low high (a, b, c, d, before, none) =
-    let same : (k : ℕ) → k < 12 → get_or year k [] ≡ get_or arguments k [] = λ k h. ap (λ (xs : List (List ℕ)). get_or xs k []) is ∙ get_or-take 12 arguments k [] h in (
-      a,
-      b,
-      low,
-      high,
-      λ k h. ((before k h).0, subst (λ w. Writes 0 999999 w (before k h).0) (same k (omega arith)) (before k h).1),
-      subst (λ w. Read 0 999999 w None) (same (m - 1) (omega arith)) none,
-    )
+  pub first_months : (kwh : List Quantity) → Months (map f year) 12 kwh → Months (map f all) 12 kwh
+  first_months kwh m k h = subst (λ w. Writes 0 999999 w (get_or kwh k (kwh_of 0)).kwh) (same k h) (m k h)
+
+  first_fault : (e : ArgumentFault) → length rest < 2 → Fault (map f year) e → Fault (map f all) e
+  first_fault (Count n) few (a, b, c) = let size : length (map f year) ≡ length (take 12 all) = length-map year f ∙ ap length parts.0 in absurd (omega (arith, length-take 12 all, parts.2))
+  first_fault Month few (a, b, c) = let size : length (map f year) ≡ length (take 12 all) = length-map year f ∙ ap length parts.0 in absurd (omega (arith, length-take 12 all, parts.2))
+  first_fault (Kwh m) few (a, b, c, d, before, none) = (
+    a,
+    b,
+    omega (arith, how_many),
+    omega (arith, how_many),
+    λ k h. ((before k h).0, subst (λ w. Writes 0 999999 w (before k h).0) (same k (omega arith)) (before k h).1),
+    subst (λ w. Read 0 999999 w None) (same (m - 1) (omega arith)) none,
+  )
+
+  pub passed_on : (r : Result Household ArgumentFault) (e : ArgumentFault) → length rest < 2 → IsErrAnd r (λ y. y ≡ e) → Fault (map f year) e → Parsed (map f all) r
+  passed_on (Ok h) e few is fault = absurd is
+  passed_on (Err y) e few is fault = subst (λ x. Fault (map f all) x) (sym is) (first_fault e few fault)
+
+  -- what was read of the argument after them
+  pub mark_read : (x : X) (bytes : List ℕ) (o p : Option ℕ) → 1 ≤ length rest → x ≡ get_or rest 0 x → bytes ≡ f x → o ≡ p → Read 1 12 bytes o → Read 1 12 (get_or (map f all) 12 []) p
+  mark_read x bytes o p room at is =
+      let place : x ≡ get_or all 12 x = at ∙ ap (λ (l : List X). get_or l 0 x) parts.1 ∙ get_or-drop 12 all 0 x in
+      read_at f all 12 x 1 12 bytes o p (omega (arith, parts.2)) (is ∙ ap f place)

@@ -6,6 +6,7 @@ use crate::household::{ArgumentFault, Household};
 use sheet::quantity::Kwh;
 
 /// The whole number that an argument writes, if it lies within these limits.
+// Two numbers: a `RangeInclusive` that has been iterated no longer contains its end.
 pub fn number(argument: &str, least: u64, most: u64) -> Option<u64>
     ensures { Read least most argument.now result }
 {
