@@ -1,3 +1,4 @@
 pub mod Listed
 pub mod Argued
 pub mod Bought
+pub mod Digits

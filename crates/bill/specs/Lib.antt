@@ -2,4 +2,5 @@ pub mod Texts
 pub mod Shandong
 pub mod Years
 pub mod Lines
+pub mod Walks
 pub mod Arguments

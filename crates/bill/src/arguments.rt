@@ -1,38 +1,29 @@
 //! A household's year from the arguments of a command line.
-ghost use Rattle.std.specs.Prelude.{◌≤◌, map, length, string_bytes, MatchResult};
+ghost use Rattle.std.specs.Prelude.{map, string_bytes, MatchResult};
 ghost use Rattle.bill.specs.Arguments.{Read, Months, Fault, Parsed};
 
 use crate::household::{ArgumentFault, Household};
 use sheet::quantity::Kwh;
 
 /// The whole number that an argument writes, if it lies within these limits.
+// Two numbers: a `RangeInclusive` that has been iterated no longer contains its end.
 pub fn number(argument: &str, least: u64, most: u64) -> Option<u64>
     ensures { Read least most argument.now result }
 {
-    match argument.parse::<u64>() {
-        Ok(n) => {
-            if least <= n && n <= most {
-                Some(n)
-            } else {
-                None
-            }
-        }
-        Err(_) => None,
-    }
+    argument
+        .parse::<u64>()
+        .ok()
+        .filter(|n| (least..=most).contains(n))
 }
 
 // The kWh of the twelve months.
-fn months(arguments: &[String]) -> Result<[Kwh; 12], ArgumentFault>
-    requires least { 12 ≤ length arguments.now }
-    requires most { length arguments.now ≤ 13 }
-    ensures { MatchResult result (λ kwh. Months (map string_bytes arguments.now) 12 kwh) (λ e. Fault (map string_bytes arguments.now) e) }
+fn months(year: &[String; 12]) -> Result<[Kwh; 12], ArgumentFault>
+    ensures { MatchResult result (λ kwh. Months (map string_bytes year.now) 12 kwh) (λ e. Fault (map string_bytes year.now) e) }
 {
     let mut kwh = [Kwh { kwh: 0 }; 12];
-    for i in 0..12usize {
-        match number(arguments[i].as_str(), 0, 999_999) {
-            Some(n) => kwh[i] = Kwh { kwh: n },
-            None => return Err(ArgumentFault::Kwh { month: i + 1 }),
-        }
+    for (i, argument) in year.iter().enumerate() {
+        let n = number(argument, 0, 999_999).ok_or(ArgumentFault::Kwh { month: i + 1 })?;
+        kwh[i] = Kwh { kwh: n };
     }
     Ok(kwh)
 }
@@ -41,22 +32,21 @@ fn months(arguments: &[String]) -> Result<[Kwh; 12], ArgumentFault>
 pub fn household(arguments: &[String]) -> Result<Household, ArgumentFault>
     ensures { Parsed (map string_bytes arguments.now) result }
 {
-    let given = arguments.len();
-    if given != 12 && given != 13 {
-        return Err(ArgumentFault::Count { given });
-    }
-    let kwh = months(arguments)?;
-    if given == 12 {
-        return Ok(Household {
-            kwh,
+    match arguments.split_first_chunk::<12>() {
+        Some((year, [])) => Ok(Household {
+            kwh: months(year)?,
             multi_from: None,
-        });
-    }
-    match number(arguments[12].as_str(), 1, 12) {
-        Some(month) => Ok(Household {
-            kwh,
-            multi_from: Some(month),
         }),
-        None => Err(ArgumentFault::Month),
+        Some((year, [month])) => {
+            let kwh = months(year)?;
+            let month = number(month, 1, 12).ok_or(ArgumentFault::Month)?;
+            Ok(Household {
+                kwh,
+                multi_from: Some(month),
+            })
+        }
+        _ => Err(ArgumentFault::Count {
+            given: arguments.len(),
+        }),
     }
 }

@@ -9,3 +9,4 @@ pub mod lines;
 pub mod messages;
 pub mod rating;
 pub mod texts;
+pub mod walk;

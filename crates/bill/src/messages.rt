@@ -6,11 +6,12 @@ use crate::household::ArgumentFault;
 use std::error::Error;
 use std::fmt;
 
+// By hand: what `thiserror` derives has no contract, so the text would be stated nowhere.
 impl fmt::Display for ArgumentFault {
     ghost output = { λ e. Some (message e) };
 
     fn fmt<W: fmt::Write>(&self, f: &mut fmt::Formatter<W>) -> fmt::Result {
-        match *self {
+        match self {
             ArgumentFault::Count { given } => {
                 write!(
                     f,

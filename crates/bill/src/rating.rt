@@ -3,7 +3,7 @@ ghost use Rattle.std.specs.Prelude.{◌≡◌, ◌≤◌, length, option_map, sl
 ghost use Rattle.sheet.specs.Rows.{kwh, kwh_of, row_limit};
 ghost use Rattle.tariff.specs.Faults.{units_of};
 ghost use Rattle.tiers.specs.Splits.{shares_of};
-ghost use Rattle.bill.specs.Lines.{lines, end_lines};
+ghost use Rattle.bill.specs.Lines.{lines, end_lines, sum_line};
 ghost use Rattle.bill.specs.Shandong.{shares, cost};
 ghost use Rattle.bill.specs.Years.{marked_year, rows_of};
 
@@ -38,9 +38,8 @@ impl Household {
     pub fn rows(&self) -> Option<YearRows>
         ensures { result ≡ rows_of self.now }
     {
-        let year: &[Kwh] = &self.kwh;
         let mut rows = marked_year(self.multi_from);
-        for (i, kwh) in year.iter().enumerate() {
+        for (i, kwh) in self.kwh.iter().enumerate() {
             rows = booked_in(&rows, i as u64 + 1, Booking::Purchase { bought: *kwh })?;
         }
         Some(rows)
@@ -70,11 +69,8 @@ impl Bill {
     pub fn charge(&self) -> Units
         ensures { result ≡ units_of (cost self.now.sheet.rows) }
     {
-        match shandong().charge(&self.sheet) {
-            Ok(charge) => charge,
-            // No price of Shandong's is above 100,000.
-            Err(_) => unreachable(),
-        }
+        // No price of Shandong's is above 100,000.
+        shandong().charge(&self.sheet).unwrap()
     }
 
     fn split(&self) -> Split
@@ -84,6 +80,7 @@ impl Bill {
     }
 
     /// How many lines it has.
+    #[tactic(auto, using(crate::proofs::Listed::length_numbered))]
     pub fn len(&self) -> usize
         ensures { result ≡ length (lines self.now.sheet.rows) }
     {
@@ -92,14 +89,14 @@ impl Bill {
     }
 
     /// Its lines: each month, the year's kWh, each tier, the sum. None past the last.
+    #[tactic(auto, using(crate::proofs::Listed::line_month, crate::proofs::Listed::line_total, crate::proofs::Listed::line_end))]
     pub fn line(&self, k: usize) -> Option<Line>
         ensures { result ≡ slice_get (lines self.now.sheet.rows) k }
     {
-        if k < 12 {
-            let row = self.sheet.rows()[k];
+        if let Some(row) = self.sheet.rows().get(k) {
             return Some(Line::Month {
                 month: k as u64 + 1,
-                kwh: used(row),
+                kwh: used(*row),
                 multi: row.multi,
             });
         }
@@ -116,19 +113,22 @@ impl Bill {
     {
         let split = self.split();
         let shares = split.shares();
-        if k < shares.len() {
+        if let Some(share) = shares.get(k) {
             return Some(Line::Tier {
                 tier: k as u64 + 1,
-                share: shares[k],
+                share: *share,
             });
         }
-        if k == shares.len() {
-            let charge = self.charge();
-            return Some(Line::Sum {
-                charge,
-                fen: charge.to_fen(),
-            });
+        (k == shares.len()).then(|| self.sum())
+    }
+
+    fn sum(&self) -> Line
+        ensures { result ≡ sum_line self.now.sheet.rows }
+    {
+        let charge = self.charge();
+        Line::Sum {
+            charge,
+            fen: charge.to_fen(),
         }
-        None
     }
 }

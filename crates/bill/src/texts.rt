@@ -15,14 +15,10 @@ pub struct UnitsAsYuan(pub Units);
 impl fmt::Display for UnitsAsYuan {
     ghost output = { λ y. Some (texts.units_as_yuan y.0.units) };
 
+    #[tactic(auto, using(crate::proofs::Digits::last_four))]
     fn fmt<W: fmt::Write>(&self, f: &mut fmt::Formatter<W>) -> fmt::Result {
         let units = self.0.units;
-        let whole = units / 10_000;
-        let a = units / 1_000 % 10;
-        let b = units / 100 % 10;
-        let c = units / 10 % 10;
-        let d = units % 10;
-        write!(f, "{whole}.{a}{b}{c}{d}")
+        write!(f, "{}.{:04}", units / 10_000, units % 10_000)
     }
 }
 
@@ -33,14 +29,12 @@ pub struct FenAsYuan(pub Fen);
 impl fmt::Display for FenAsYuan {
     ghost output = { λ y. Some (texts.fen_as_yuan y.0.fen) };
 
+    #[tactic(auto, using(crate::proofs::Digits::last_two))]
     fn fmt<W: fmt::Write>(&self, f: &mut fmt::Formatter<W>) -> fmt::Result {
         let fen = self.0.fen;
         let sign = if fen < 0 { "-" } else { "" };
         let size = fen.unsigned_abs();
-        let whole = size / 100;
-        let a = size / 10 % 10;
-        let b = size % 10;
-        write!(f, "{sign}{whole}.{a}{b}")
+        write!(f, "{sign}{}.{:02}", size / 100, size % 100)
     }
 }
 
@@ -53,10 +47,7 @@ impl fmt::Display for Reach {
 
     fn fmt<W: fmt::Write>(&self, f: &mut fmt::Formatter<W>) -> fmt::Result {
         match self.0 {
-            Some(limit) => {
-                let kwh = limit.kwh;
-                write!(f, "up to {kwh} kWh")
-            }
+            Some(limit) => write!(f, "up to {} kWh", limit.kwh),
             None => write!(f, "the rest"),
         }
     }
@@ -68,32 +59,24 @@ impl fmt::Display for Line {
     fn fmt<W: fmt::Write>(&self, f: &mut fmt::Formatter<W>) -> fmt::Result {
         match *self {
             Line::Month { month, kwh, multi } => {
-                let kwh = kwh.kwh;
-                if multi {
-                    write!(f, "month {month}: {kwh} kWh, multi-person")
-                } else {
-                    write!(f, "month {month}: {kwh} kWh")
-                }
+                let note = if multi { ", multi-person" } else { "" };
+                write!(f, "month {month}: {} kWh{note}", kwh.kwh)
             }
-            Line::Total { kwh } => {
-                let kwh = kwh.kwh;
-                write!(f, "year: {kwh} kWh")
-            }
-            Line::Tier { tier, share } => {
-                let reach = Reach(share.limit);
-                let kwh = share.kwh.kwh;
-                let price = UnitsAsYuan(share.price);
-                let charge = UnitsAsYuan(share.charge);
-                write!(
-                    f,
-                    "tier {tier} ({reach}): {kwh} kWh at {price} yuan = {charge} yuan"
-                )
-            }
-            Line::Sum { charge, fen } => {
-                let charge = UnitsAsYuan(charge);
-                let cash = FenAsYuan(fen);
-                write!(f, "sum: {charge} yuan, to pay {cash} yuan")
-            }
+            Line::Total { kwh } => write!(f, "year: {} kWh", kwh.kwh),
+            Line::Tier { tier, share } => write!(
+                f,
+                "tier {tier} ({}): {} kWh at {} yuan = {} yuan",
+                Reach(share.limit),
+                share.kwh.kwh,
+                UnitsAsYuan(share.price),
+                UnitsAsYuan(share.charge)
+            ),
+            Line::Sum { charge, fen } => write!(
+                f,
+                "sum: {} yuan, to pay {} yuan",
+                UnitsAsYuan(charge),
+                FenAsYuan(fen)
+            ),
         }
     }
 }
@@ -102,10 +85,8 @@ impl fmt::Display for Bill {
     ghost output = { λ b. Some (texts.page (lines b.sheet.rows)) };
 
     fn fmt<W: fmt::Write>(&self, f: &mut fmt::Formatter<W>) -> fmt::Result {
-        for k in 0..self.len() {
-            if let Some(line) = self.line(k) {
-                write!(f, "{line}\n")?;
-            }
+        for line in self.lines() {
+            writeln!(f, "{line}")?;
         }
         Ok(())
     }

@@ -3,22 +3,20 @@
 
 #![tactic(auto)]
 
-use anyhow::anyhow;
+use anyhow::{Context, Result};
 use bill::arguments::household;
 use bill::bill::Bill;
 use std::env;
 use std::process::ExitCode;
 
-fn run(rt: &HostRuntime) -> anyhow::Result<()> {
-    let Ok(arguments) = env::args(rt) else {
-        return Err(anyhow!("the arguments cannot be read as UTF-8 text"));
-    };
-    let arguments: Vec<String> = arguments.skip(1).collect(rt.alloc())?;
-    let year = household(arguments.as_slice())?;
+fn run(rt: &HostRuntime) -> Result<()> {
+    let arguments: Vec<String> = env::args(rt)
+        .context("the arguments cannot be read as UTF-8 text")?
+        .skip(1)
+        .collect(rt.alloc())?;
+    let year = household(&arguments)?;
     // Cannot fail: `household` takes no month above 999,999 kWh.
-    let Some(bill) = Bill::new(&year) else {
-        return Err(anyhow!("a month has more than 999999 kWh"));
-    };
+    let bill = Bill::new(&year).context("a month has more than 999999 kWh")?;
     print!(rt; "{bill}")?;
     Ok(())
 }

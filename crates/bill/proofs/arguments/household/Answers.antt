@@ -1,27 +1,35 @@
-use Rattle.std.proofs.Common.{◌≡◌, map, length, Some, None, string_bytes, sym, ◌∙◌, arith}
-use Rattle.std.proofs.lemmas.List.{length-map}
-use Rattle.bill.proofs.Argued.{argument_at, read_at, some_months}
+use Rattle.std.proofs.Common.{Some, None, string_bytes, ◌∙◌, arith}
+use Rattle.bill.specs.declared.household.ArgumentFault.TheVariants.{Month}
+use Rattle.bill.proofs.Argued.{refused_or, how_many, first_months, passed_on, mark_read, some_months}
 use Rattle.bill.proofs.arguments.household.Goals as goal
 
-pub returns-then-given-ne13 : goal.returns-then-given-ne13
-returns-then-given-ne13 c = (sym (length-map c.args.arguments.now string_bytes), c.if-given-ne12.true, c.if-given-ne13.true)
+pub returns-in_err-months-in-Some-default-empty : goal.returns-in_err-months-in-Some-default-empty
+returns-in_err-months-in-Some-default-empty c =
+    let w = c.in-Some-default-empty in
+    passed_on string_bytes _ _ _ w.ensures.cases _ _ (omega arith) c.from_residual.ensures.1 c.in_err-months-in-Some-default-empty.ensures
 
-pub returns-then-given-eq12 : goal.returns-then-given-eq12
-returns-then-given-eq12 c = (c.in_ok-kwh.ensures, length-map c.args.arguments.now string_bytes ∙ c.if-given-eq12.true)
+pub returns-in_err-kwh-in-Some-default-len1 : goal.returns-in_err-kwh-in-Some-default-len1
+returns-in_err-kwh-in-Some-default-len1 c =
+    let w = c.in-Some-default-len1 in
+    passed_on string_bytes _ _ _ w.ensures.cases _ _ (omega arith) c.from_residual-in_err-kwh-in-Some-default-len1.ensures.1 c.in_err-kwh-in-Some-default-len1.ensures
 
-pub returns-in-Some : goal.returns-in-Some
-returns-in-Some c =
-    let arguments = c.args.arguments.now in
-    let thirteen : length c.args.arguments.now ≡ 13 = omega (arith, c.else-given-ne12.either) in
-    let place = c.as_str.ensures.value ∙ argument_at string_bytes arguments 12 c.index-arguments-12.result (omega arith) c.index-arguments-12.is in
-    (c.in_ok-kwh.ensures, (length-map arguments string_bytes ∙ thirteen, read_at 1 12 _ _ (Some c.in-Some.month) place c.in-Some.ensures))
+pub returns-in_err-month-in-Some-default-len1 : goal.returns-in_err-month-in-Some-default-len1
+returns-in_err-month-in-Some-default-len1 c =
+    let w = c.in-Some-default-len1 in
+    let e = c.in_err-month-in-Some-default-len1.ensures in
+    let months = first_months string_bytes _ _ _ w.ensures.cases c.in_ok-kwh-in-Some-default-len1.kwh c.in_ok-kwh-in-Some-default-len1.ensures in
+    let none = mark_read string_bytes _ _ _ w.ensures.cases c.month-item.result _ _ None w.len_at_least c.month-item.is c.deref.ensures e.ok_part c.number.ensures in
+    rw (refused_or _ c.number.result _ Month c.from_residual-in_err-month-in-Some-default-len1.ensures.1 e.value)
+    (how_many string_bytes _ _ _ w.ensures.cases ∙ omega arith, some_months _ 12 _ months, none)
 
-pub returns-in-None : goal.returns-in-None
-returns-in-None c =
-    let arguments = c.args.arguments.now in
-    let thirteen : length c.args.arguments.now ≡ 13 = omega (arith, c.else-given-ne12.either) in
-    let place = c.as_str.ensures.value ∙ argument_at string_bytes arguments 12 c.index-arguments-12.result (omega arith) c.index-arguments-12.is in (
-      length-map arguments string_bytes ∙ thirteen,
-      some_months (map string_bytes arguments) 12 12 c.in_ok-kwh.kwh (omega arith) c.in_ok-kwh.ensures,
-      read_at 1 12 _ _ None place c.in-None.ensures,
-    )
+pub returns-in_ok-months-in-Some-default-empty : goal.returns-in_ok-months-in-Some-default-empty
+returns-in_ok-months-in-Some-default-empty c =
+    let w = c.in-Some-default-empty in
+    (first_months string_bytes _ _ _ w.ensures.cases _ c.in_ok-months-in-Some-default-empty.ensures, how_many string_bytes _ _ _ w.ensures.cases ∙ omega arith)
+
+pub returns-in_ok-month-in-Some-default-len1 : goal.returns-in_ok-month-in-Some-default-len1
+returns-in_ok-month-in-Some-default-len1 c =
+    let w = c.in-Some-default-len1 in
+    let e = c.in_ok-month-in-Some-default-len1 in
+    let month = mark_read string_bytes _ _ _ w.ensures.cases c.month-item.result _ _ (Some e.month) w.len_at_least c.month-item.is c.deref.ensures e.ensures.ok_part c.number.ensures in
+    (first_months string_bytes _ _ _ w.ensures.cases _ c.in_ok-kwh-in-Some-default-len1.ensures, (how_many string_bytes _ _ _ w.ensures.cases ∙ omega arith, month))

@@ -1,29 +1,23 @@
-use Rattle.std.proofs.Common.{◌≡◌, ◌+◌, ◌-◌, [], map, get_or, Some, None, string_bytes, ap, ◌∙◌, arith, length-set}
+use Rattle.std.proofs.Common.{◌≡◌, ◌+◌, map, length, None, Some, string_bytes, ◌∙◌, arith, length-set}
 use Rattle.std.proofs.lemmas.List.{length-map}
-use Rattle.bill.proofs.Argued.{argument_at, read_at, months_more, some_months}
+use Rattle.bill.specs.declared.household.ArgumentFault.TheVariants.{Kwh}
+use Rattle.bill.proofs.Argued.{read_at, refused_or, months_more, month_fault}
 use Rattle.bill.proofs.arguments.months.Goals as goal
 
-pub returns-in-None : goal.returns-in-None
-returns-in-None c =
-    let arguments = map string_bytes c.args.arguments.now in
+pub returns-in_err-n : goal.returns-in_err-n
+returns-in_err-n c =
+    let arguments = map string_bytes c.args.year.now in
     let i = c.loop-i.i in
-    let size = length-map c.args.arguments.now string_bytes in
-    let back : i ≡ i + 1 - 1 = omega arith in
-    let place = c.as_str.ensures.value ∙ argument_at string_bytes c.args.arguments.now i c.index-arguments-i.result (omega (arith, c.requires.least)) c.index-arguments-i.is
-    ∙ ap (λ k. get_or arguments k []) back in (
-      omega arith,
-      omega arith,
-      omega (arith, c.requires.least),
-      omega (arith, c.requires.most),
-      some_months arguments i (i + 1 - 1) c.loop-i.kwh (omega arith) c.loop-i.invariant.0,
-      read_at 0 999999 _ _ None place c.in-None.ensures,
-    )
+    let size : length arguments ≡ 12 = length-map c.args.year.now string_bytes ∙ c.type_inv.year in
+    let none = read_at string_bytes c.args.year.now i c.index-year-i.result 0 999999 _ _ None (omega arith) c.deref.ensures c.in_err-n.ensures.ok_part c.number.ensures in
+    let fault = month_fault arguments i c.loop-i.kwh size (omega arith) c.loop-i.invariant.0 none in
+    let said = refused_or c.from_residual.result c.number.result c.in_err-n.field-0.0 (Kwh (i + 1)) c.from_residual.ensures.1 c.in_err-n.ensures.value in
+    rw said fault
 
 pub loop-i-preserved : goal.loop-i-preserved
 loop-i-preserved c =
-    let arguments = map string_bytes c.args.arguments.now in
+    let arguments = map string_bytes c.args.year.now in
     let i = c.loop-i.i in
-    let place = c.as_str.ensures.value ∙ argument_at string_bytes c.args.arguments.now i c.index-arguments-i.result (omega (arith, c.requires.least)) c.index-arguments-i.is in (
-      months_more arguments i c.in-Some.n c.loop-i.kwh (omega (arith, c.loop-i.invariant.1)) (read_at 0 999999 _ _ (Some c.in-Some.n) place c.in-Some.ensures) c.loop-i.invariant.0,
-      length-set _ _ _ ∙ c.loop-i.invariant.1,
-    )
+    let n = c.in_ok-n.n in
+    let read = read_at string_bytes c.args.year.now i c.index-year-i.result 0 999999 _ _ (Some n) (omega arith) c.deref.ensures c.in_ok-n.ensures.ok_part c.number.ensures in
+    (months_more arguments i n c.loop-i.kwh (omega (arith, c.loop-i.invariant.1)) read c.loop-i.invariant.0, length-set _ _ _ ∙ c.loop-i.invariant.1)

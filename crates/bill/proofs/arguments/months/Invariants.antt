@@ -3,4 +3,4 @@ use Rattle.bill.specs.Arguments.{Months}
 use Rattle.bill.proofs.arguments.months.Given as goal
 
 abbrev pub invariant-loop-i : goal.invariant-loop-i
-invariant-loop-i l = Months (map string_bytes l.arguments) l.i l.kwh × (length l.kwh ≡ 12)
+invariant-loop-i l = Months (map string_bytes l.year) l.i l.kwh × (length l.kwh ≡ 12)

@@ -1,22 +1,13 @@
-use Rattle.std.proofs.Common.{◌≡◌, pos, Some, ap, ◌∙◌, arith}
-use Rattle.sheet.specs.Money.{rounded}
-use Rattle.sheet.specs.declared.quantity.Fen.{Fen}
-use Rattle.sheet.specs.declared.quantity.Units.{Units}
-use Rattle.bill.specs.declared.lines.Line.TheVariants.{Sum}
-use Rattle.bill.proofs.Listed.{end_tier, end_sum, end_past}
+use Rattle.std.proofs.Common.{◌≡◌, IfSome, rules, ◌∙◌}
+use Rattle.std.proofs.lemmas.Option.{IfSome_then}
+use Rattle.bill.specs.Lines.{sum_line}
+use Rattle.bill.proofs.Listed.{end_tier, end_rest}
 use Rattle.bill.proofs.bill.Bill.tier_line.Goals as goal
 
-pub returns-then-k-shares : goal.returns-then-k-shares
-returns-then-k-shares c = end_tier c.args.self.now.sheet.rows _ c.args.k (c.shares-shares.ensures ∙ c.split-split.ensures) c.if-k-shares.true
-
--- the line of a charge, and that in fen
-summed : (u v : Units) (f : Fen) → f.fen ≡ pos (rounded u.units) → u ≡ v → Some (Sum u f) ≡ Some (Sum v (record { fen = pos (rounded v.units) }))
-summed u v f e is = ap (λ z. Some (Sum u (record { fen = z }))) e ∙ ap (λ (x : Units). Some (Sum x (record { fen = pos (rounded x.units) }))) is
-
-pub returns-then-k-shares-2 : goal.returns-then-k-shares-2
-returns-then-k-shares-2 c =
-    summed _ _ _ c.to_fen.ensures c.charge-charge.ensures
-    ∙ end_sum c.args.self.now.sheet.rows _ c.args.k (c.shares-shares.ensures ∙ c.split-split.ensures) c.if-k-shares-2.true
+pub returns-in-Some : goal.returns-in-Some
+returns-in-Some c = end_tier c.args.self.now.sheet.rows _ c.args.k c.in-Some.share.now (c.shares-shares.ensures ∙ c.split-split.ensures) c.in-Some.ensures.lookup.3.0 c.in-Some.ensures.lookup.1
 
 pub returns : goal.returns
-returns c = end_past c.args.self.now.sheet.rows _ c.args.k (c.shares-shares.ensures ∙ c.split-split.ensures) (omega (arith, c.if-k-shares.false, c.if-k-shares-2.false))
+returns c =
+    let sum : IfSome c.then.result (λ l. l ≡ sum_line c.args.self.now.sheet.rows) = IfSome_then c.then.result c.then.ensures.some (λ l h. search rules) in
+    end_rest c.args.self.now.sheet.rows c.shares-shares.result.now c.args.k c.then.result (c.shares-shares.ensures ∙ c.split-split.ensures) c.in_default.ensures.lookup.3 c.then.ensures.variant sum

@@ -1,11 +1,6 @@
-use Rattle.std.proofs.Common.{List, Some, None, sym, ap, ◌∙◌, arith}
-use Rattle.sheet.specs.declared.row.Row.{Row}
-use Rattle.bill.specs.Years.{bought_from}
+use Rattle.std.proofs.Common.{Some, None, sym, ◌∙◌, arith}
 use Rattle.bill.proofs.Bought.{bought_more, bought_end}
 use Rattle.bill.proofs.household.Household.rows.Goals as goal
-
-pub loop-i-init : goal.loop-i-init
-loop-i-init c = ap (λ (r : List Row). bought_from 1 c.args.self.now.kwh r) c.marked_year-rows.ensures
 
 pub returns-in_err-rows : goal.returns-in_err-rows
 returns-in_err-rows c =
@@ -16,5 +11,4 @@ loop-i-preserved c =
     bought_more c.args.self.now.kwh c.loop-i.i c.loop-i.rows (Some c.in_ok-rows.rows) (omega arith) c.in_ok-rows.ensures ∙ c.loop-i.invariant
 
 pub returns : goal.returns
-returns c =
-    sym (bought_end c.args.self.now.kwh c.loop-i.i c.loop-i.rows (omega arith)) ∙ c.loop-i.invariant
+returns c = sym (bought_end c.args.self.now.kwh c.loop-i.i c.loop-i.rows (omega arith)) ∙ c.loop-i.invariant

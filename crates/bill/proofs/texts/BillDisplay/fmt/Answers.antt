@@ -1,33 +1,29 @@
-use Rattle.std.proofs.Common.{◌<◌, length, sym, refl, ap, arith}
-use Rattle.std.proofs.Output.{writes_in_calls_nil, has_written_append, has_written_of_eq, has_written_to_eq}
-use Rattle.std.proofs.lemmas.List.{take_all}
-use Rattle.sheet.specs.Rows.{kwh_of}
-use Rattle.bill.specs.declared.lines.Line.TheVariants.{Total}
-use Rattle.bill.specs.Lines.{lines}
+use Rattle.std.proofs.Common.{[], ◌∷◌, ◌++◌, sym, refl, ap, ◌∙◌, append_assoc}
+use Rattle.std.proofs.Output.{writes_in_calls_nil, has_written_append, has_written_of_eq}
 use Rattle.bill.specs.Texts.{page}
-use Rattle.bill.proofs.Listed.{page_more, no_line}
+use Rattle.bill.specs.Walks.{to_come}
+use Rattle.bill.proofs.Listed.{page_push}
 use Rattle.bill.proofs.texts.BillDisplay.fmt.Goals as goal
-use Rattle.bill.proofs.texts.BillDisplay.fmt.Goals.{in-Some+in_ok-write, in_default}
 
-pub loop-k-init : goal.loop-k-init
+pub loop-line-init : goal.loop-line-init
 unfolding page
-loop-k-init g c = λ plain. record { wrote = writes_in_calls_nil g.W.Write.write_str_gives _; plain = plain }
+loop-line-init g c = record {
+  can_next = tt;
+  is_finite = tt;
+  lines = ap to_come c.into_iter-line-iterator.ensures.into_iter_gives ∙ c.lines-line-items.ensures;
+  text = λ plain. record { wrote = writes_in_calls_nil g.W.Write.write_str_gives _; plain = plain };
+}
 
-pub loop-k-preserved : goal.loop-k-preserved
-loop-k-preserved g c = λ plain.
-    let all = lines c.args.self.now.sheet.rows in
-    let room : c.loop-k.k < length (lines c.args.self.now.sheet.rows) = omega (arith, c.len-k-end.ensures, c.loop-k-test.true) in
-    let so_far = c.loop-k.invariant plain in
-    elim c.match-line.branch [
-      | in-Some+in_ok-write w ↦
-          let took = g.W.Write.write_str_gives in
-          let here = w.in_ok-write.ensures.writes so_far.plain refl in
-          has_written_of_eq took _ _ _ _ (sym (page_more all c.loop-k.k w.in-Some.line room w.in-Some.ensures))
-          (has_written_to_eq took _ _ _ _ w.f-is (has_written_append took _ _ _ _ _ so_far here))
-      | in_default w ↦ no_line all c.loop-k.k (Total (kwh_of 0)) room w.in_default.ensures
-    ]
-
-pub returns-clause-writes : goal.returns-clause-writes
-returns-clause-writes g c = λ plain ok.
-    let all = lines c.args.self.now.sheet.rows in
-    has_written_of_eq g.W.Write.write_str_gives _ _ _ _ (ap page (take_all c.loop-k.k all (omega (arith, c.len-k-end.ensures)))) (c.loop-k.invariant plain)
+pub loop-line-preserved : goal.loop-line-preserved
+loop-line-preserved g c =
+    let took = g.W.Write.write_str_gives in
+    let before = c.loop-line.yielded in
+    let line = c.in-Some.line in
+    record {
+      can_next = tt;
+      is_finite = tt;
+      lines = append_assoc before (line ∷ []) (to_come c.next.new.self) ∙ ap (λ ls. before ++ ls) (sym c.in-Some.ensures.steps) ∙ c.loop-line.invariant.lines;
+      text = λ plain.
+          let so_far = c.loop-line.invariant.text plain in
+          has_written_of_eq took _ _ _ _ (sym (page_push before line)) (has_written_append took _ _ _ _ _ so_far (c.in_ok-writeln.ensures.writes so_far.plain refl));
+    }
