@@ -23,6 +23,7 @@ impl Changes {
             heating: Units { units: heating },
         }
     }
+
     /// The ordinary and the heating cut as they are used: neither takes more than the cheapest price below.
     pub(crate) fn used_cuts(&self, cheapest: Units) -> (Units, Units)
         ensures ordinary { result.0.units ≡ min self.now.ordinary.units cheapest.units }

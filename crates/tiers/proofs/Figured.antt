@@ -2,11 +2,11 @@
 use Rattle.std.proofs.Common.{refl}
 use Rattle.sheet.specs.Rows.{numbered}
 use Rattle.sheet.specs.Sums.{sum_from}
-use Rattle.tariff.specs.Tiered.{split_from, charges}
+use Rattle.tariff.specs.Tiered.{split_from}
 use Rattle.tiers.specs.Figures.{Figures}
 
 pub figures : Figures
-unfolding numbered sum_from split_from charges
+unfolding numbered sum_from split_from
 figures = record {
   first_limit_units = refl;
   first_limit = refl;

@@ -81,13 +81,3 @@ split_last rows bands last before i shares s end room priced inv =
     take_more_set shares i s (omega (arith, inv.sized))
     ∙ ap (λ (x : Share). take i shares ++ x ∷ []) priced
     ∙ ap (λ l. take i shares ++ l) (sym tail) ∙ inv.so_far
-
--- ---- the sum of the shares
-
-pub charges_more : (ss : List Share) (i : ℕ) → i < length ss → charges (drop i ss) ≡ (get_or ss i (share 0 None 0)).charge.units + charges (drop (i + 1) ss)
-unfolding charges
-charges_more ss i h = at_drop_more charges ss i (share 0 None 0) h
-
-pub charges_end : (ss : List Share) (i : ℕ) → length ss ≤ i → charges (drop i ss) ≡ 0
-unfolding charges
-charges_end ss i h = at_drop_all charges ss i h

@@ -1,5 +1,4 @@
-use Rattle.std.proofs.Common.{◌≡◌, true, [], ◌∷◌, refl, ◌∙◌, ap₂, arith}
-use Rattle.tariff.specs.declared.band.Band.{Band}
+use Rattle.std.proofs.Common.{◌≡◌, true, refl}
 use Rattle.tariff.specs.Table.{rises, lowest}
 use Rattle.tiers.specs.Published.{shandong_bands, shandong_last}
 use Rattle.tiers.proofs.Figured.{figures}
@@ -9,17 +8,8 @@ shandong_rises : rises lowest shandong_bands shandong_last ≡ true
 unfolding rises
 shandong_rises = refl
 
-pub invariant_of-result : goal.invariant_of-result
-invariant_of-result c =
-    record {
-      five = refl;
-      few = omega arith;
-      kept = ap₂ (λ (a : Band) (b : Band). rises lowest (a ∷ b ∷ []) 8469) c.band.ensures c.band-second.ensures ∙ shandong_rises;
-    }
+pub invariant_of-result-clause-kept : goal.invariant_of-result-clause-kept
+invariant_of-result-clause-kept c = let lawful = shandong_rises in cc
 
-pub returns : goal.returns
-returns c = record {
-  bands = ap₂ (λ (a : Band) (b : Band). a ∷ b ∷ []) c.band.ensures c.band-second.ensures;
-  last = refl;
-  figures = figures;
-}
+pub returns-clause-figures : goal.returns-clause-figures
+returns-clause-figures c = figures
