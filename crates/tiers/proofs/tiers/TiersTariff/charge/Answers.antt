@@ -1,5 +1,4 @@
 use Rattle.std.proofs.Common.{◌≡◌, ◌<◌, ◌^◌, ap, ◌∙◌, arith, rules}
-use Rattle.std.proofs.iter.runs.Made.{chains}
 use Rattle.sheet.proofs.Adding.{proper_of}
 use Rattle.tariff.specs.Tiered.{charges}
 use Rattle.tiers.specs.Tables.{bands_of, rate_of}
