@@ -1,5 +1,5 @@
 //! What each tier takes of a year.
-ghost use Rattle.std.specs.Prelude.{◌≡◌, ◌+◌, ◌-◌, ◌*◌, ◌<◌, ◌≤◌, [], ◌∷◌, ◌++◌};
+ghost use Rattle.std.specs.Prelude.{◌≡◌, ◌+◌, ◌-◌, ◌*◌, ◌^◌, ◌<◌, ◌≤◌, [], ◌∷◌, ◌++◌};
 ghost use Rattle.sheet.specs.Sums.{total};
 ghost use Rattle.tariff.specs.Tiered as means;
 ghost use Rattle.tiers.specs.Tables.{bands_of};
@@ -63,6 +63,14 @@ impl Split {
         ensures { result.now ≡ shares_of self.now }
     {
         &self.shares[..self.count]
+    }
+    // What all the shares cost.
+    pub(crate) fn charge(&self) -> Units
+        requires { means.charges (shares_of self.now) < 2 ^ 64 }
+        ensures { result.units ≡ means.charges (shares_of self.now) }
+    {
+        let units = self.shares().iter().map(|share| share.charge.units).sum();
+        Units { units }
     }
 }
 

@@ -122,11 +122,8 @@ impl Tariff for Tiers {
         self.last
     }
 
+    #[tactic(auto, using(crate::proofs::Splitting::charges_small))]
     fn charge(&self, sheet: &Sheet) -> Result<Units, TariffFault> {
-        let split = self.split(sheet);
-        let charges = split.shares().iter().map(|share| share.charge.units);
-        Ok(Units {
-            units: charges.sum(),
-        })
+        Ok(self.split(sheet).charge())
     }
 }
