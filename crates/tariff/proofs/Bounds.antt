@@ -45,3 +45,5 @@ cuts_within r s z u o h met dear e is oh hh =
       met.least s.rows (proper_of s),
       cuts_le o h r.cheapest z.other.kwh z.heating.kwh (total s.rows) oh hh (omega arith),
     )
+
+pub ruleset bounds = (priced_small, total_small_of, sums_small, cuts_small, raised_fits)

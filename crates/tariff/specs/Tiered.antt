@@ -1,5 +1,5 @@
 -- What tiers mean: how far each reaches, what each takes of a year, and what that costs.
-use Rattle.std.specs.Prelude.{ℕ, ◌+◌, ◌-◌, ◌*◌, min, cond, List, [], ◌∷◌, Some, None, Option, sum_by}
+use Rattle.std.specs.Prelude.{ℕ, ◌-◌, ◌*◌, min, cond, List, [], ◌∷◌, Some, None, Option, sum_by}
 use Rattle.sheet.specs.Rows.{kwh_of}
 use Rattle.sheet.specs.Sums.{sum_from, total}
 use Rattle.sheet.specs.declared.quantity.Kwh.{Kwh}

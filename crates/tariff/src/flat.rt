@@ -61,7 +61,7 @@ impl Tariff for Flat {
         self.price
     }
 
-    #[tactic(auto, using(crate::proofs::Bounds::total_small_of, crate::proofs::Bounds::priced_small))]
+    #[tactic(auto, using(crate::proofs::Bounds::bounds))]
     fn charge(&self, sheet: &Sheet) -> Result<Units, TariffFault> {
         Ok(Units {
             units: self.price.units * sheet.total().kwh,

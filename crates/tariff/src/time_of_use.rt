@@ -67,7 +67,7 @@ impl<T: Tariff> Tariff for TimeOfUse<T> {
         }
     }
 
-    #[tactic(auto, using(crate::proofs::Bounds::priced_small, crate::proofs::Bounds::sums_small, crate::proofs::Bounds::cuts_small, crate::proofs::Bounds::raised_fits))]
+    #[tactic(auto, using(crate::proofs::Bounds::bounds))]
     fn charge(&self, sheet: &Sheet) -> Result<Units, TariffFault> {
         if self.dearest().units > 100_000 {
             return Err(TariffFault::TooDear);

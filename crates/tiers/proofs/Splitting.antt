@@ -1,45 +1,22 @@
--- The loops over a tier table: testing it, copying it, and splitting a year by it.
-use Rattle.std.proofs.Common.{◌≡◌, ℕ, ◌+◌, ◌-◌, ◌<◌, ◌≤◌, min, Bool, ◌&&◌, Ok, List, [], ◌∷◌, ◌++◌, length, get_or, drop, Some, None, sym, ap, ◌∙◌, subst, append_assoc, arith}
+-- Splitting a year by a tier table, share by share.
+use Rattle.std.proofs.Common.{◌≡◌, ℕ, ◌+◌, ◌-◌, ◌<◌, ◌≤◌, min, List, [], ◌∷◌, ◌++◌, length, get_or, drop, Some, None, sym, ap, ◌∙◌, subst, append_assoc, arith}
 use Rattle.std.proofs.lemmas.List.{drop_more, at_drop_more, at_drop_all}
-use Rattle.std.proofs.lemmas.Bool.{le-leb}
 use Rattle.sheet.specs.declared.sums.SixSums.{SixSums}
 use Rattle.sheet.specs.declared.sheet.Sheet.{Sheet}
 use Rattle.sheet.proofs.Adding.{proper_of, total_small, counted_small, multi_among_counted}
 use Rattle.tiers.specs.declared.table.Tiers.{Tiers}
-use Rattle.tiers.specs.Tables.{bands_of, rate_of}
+use Rattle.tiers.specs.Tables.{bands_of}
 use Rattle.sheet.specs.Sums.{total, six_sums}
 use Rattle.sheet.specs.declared.row.Row.{Row}
 use Rattle.sheet.specs.Rows.{kwh_of}
-use Rattle.sheet.specs.declared.quantity.Units.{Units}
-use Rattle.tariff.specs.Faults.{units_of, answer}
-use Rattle.tariff.proofs.Answered.{answers}
 use Rattle.tiers.specs.Tabled.{table_small}
-use Rattle.tariff.specs.Tiered.{limit, share, split_from, split, charges}
+use Rattle.tariff.specs.Tiered.{limit, share, split_from, split}
 use Rattle.tariff.specs.declared.band.Band.{Band}
 use Rattle.tariff.specs.declared.band.Share.{Share}
-use Rattle.tariff.specs.Table.{may_follow, may_end, rises, lowest, lawful_table}
 use Rattle.tiers.specs.Climbing.{Climbs, table_climbs, table_prices}
-
--- what a read past the end of a table would give
-abbrev pub no_band : Band
-no_band = record { price = units_of 0; ordinary = kwh_of 0; multi = kwh_of 0 }
-
--- one turn of the test of a table
-pub rises_more : (a : Band) (bands : List Band) (last i : ℕ) (t : Bool) → i < length bands → t ≡ may_follow a (get_or bands i no_band)
-    → rises a (drop i bands) last ≡ (t && rises (get_or bands i no_band) (drop (i + 1) bands) last)
-unfolding rises
-rises_more a bands last i t within e =
-    at_drop_more (λ l. rises a l last) bands i no_band within
-    ∙ ap (λ u. u && rises (get_or bands i no_band) (drop (i + 1) bands) last) (sym e)
-
-pub rises_end : (a : Band) (bands : List Band) (last i : ℕ) → length bands ≤ i → rises a (drop i bands) last ≡ may_end a last
-unfolding rises
-rises_end a bands last i past = at_drop_all (λ l. rises a l last) bands i past
-
-pub lawful_is : (bands : List Band) (last : ℕ) (t : Bool) → length bands ≤ 5 → t ≡ rises lowest bands last → t ≡ lawful_table bands last
-lawful_is bands last t few e = e ∙ sym (ap (λ u. u && rises lowest bands last) (le-leb (length bands) 5 few))
-
--- ---- the split
+use Rattle.tiers.specs.Climbing.{limit_is}
+use Rattle.tiers.specs.Tabled.{table_whole}
+use Rattle.tiers.proofs.Testing.{no_band}
 
 -- what the six sums of a sheet keep to
 pub months_few : (s : Sheet) (z : SixSums) → z ≡ six_sums s.rows → z.counted ≤ 12
@@ -99,12 +76,4 @@ split_last rows bands last before i done s end priced inv =
     let tail = at_drop_all (λ l. split_from before l last rows) bands i end in
     ap (λ (x : Share). done ++ x ∷ []) priced ∙ ap (λ l. done ++ l) (sym tail) ∙ inv.so_far
 
--- ---- the sum of the shares
-
-pub charges_small : (t : Tiers) (s : Sheet) (ss : List Share) → ss ≡ split (bands_of t) t.last.units s.rows → charges ss ≤ 239999760000
-charges_small t s ss is = omega (arith, table_small s.rows (bands_of t) t.last.units (proper_of s) t.kept, ap charges is)
-
-pub charged : (t : Tiers) (s : Sheet) (u : Units) (ss : List Share) → ss ≡ split (bands_of t) t.last.units s.rows → u.units ≡ charges ss → Ok u ≡ answer (rate_of t) s.rows
-charged t s u ss is e =
-    let low = table_prices (bands_of t) t.last.units t.kept in
-    answers u.units (rate_of t) s.rows (omega (arith, low.1)) (e ∙ ap charges is)
+pub ruleset splits = (months_few, multi_among, whole_small, reaches, split_last, limit_is, table_whole)

@@ -12,17 +12,14 @@ use tariff::flat::Flat;
 use tariff::time_of_use::TimeOfUse;
 
 /// Shandong's three tiers. What they come to in a year is the table of figures.
+#[tactic(auto, using(crate::proofs::Figured::shandong_lawful, crate::proofs::Figured::figures))]
 pub fn shandong() -> Tiers
     ensures bands { bands_of result ≡ values.shandong_bands }
     ensures last { result.last.units ≡ values.shandong_last }
     ensures figures { Figures }
 {
-    let second = Band::new(5969, 400, 400);
-    Tiers {
-        bands: [Band::new(5469, 210, 310), second, second, second, second],
-        count: 2,
-        last: Units { units: 8469 },
-    }
+    let bands = [Band::new(5469, 210, 310), Band::new(5969, 400, 400)];
+    Tiers::new(&bands, Units { units: 8469 }).unwrap()
 }
 
 /// Shandong's tiers under its time of use.

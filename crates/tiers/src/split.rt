@@ -39,6 +39,7 @@ fn share(price: Units, limit: Option<Kwh>, kwh: u64) -> Share
 }
 
 impl Split {
+    // No shares yet: those in the array are not in use.
     fn none() -> Split
         ensures shares { shares_of result ≡ [] }
         ensures count { result.count ≡ 0 }
@@ -64,19 +65,20 @@ impl Split {
     {
         &self.shares[..self.count]
     }
+
     // What all the shares cost.
     pub(crate) fn charge(&self) -> Units
         requires { means.charges (shares_of self.now) < 2 ^ 64 }
         ensures { result.units ≡ means.charges (shares_of self.now) }
     {
-        let units = self.shares().iter().map(|share| share.charge.units).sum();
+        let units: u64 = self.shares().iter().map(|share| share.charge.units).sum();
         Units { units }
     }
 }
 
 impl Tiers {
     /// What each tier takes of the sheet's kWh, and what that costs; all together they take all of it.
-    #[tactic(auto, using(crate::proofs::Splitting::months_few, crate::proofs::Splitting::multi_among, crate::proofs::Splitting::whole_small, crate::proofs::Splitting::reaches, crate::proofs::Splitting::split_last, crate::specs::Climbing::limit_is, crate::specs::Tabled::table_whole))]
+    #[tactic(auto, using(crate::proofs::Splitting::splits))]
     pub fn split(&self, sheet: &Sheet) -> Split
         ensures shares { shares_of result ≡ means.split (bands_of self.now) self.now.last.units sheet.now.rows }
         ensures whole { means.kwhs (shares_of result) ≡ total sheet.now.rows }

@@ -49,7 +49,7 @@ fn may_end(before: &Band, last: Units) -> bool
 }
 
 /// Whether tiers but the last, and the price of the last, keep the rules of a tier table.
-#[tactic(auto, using(crate::proofs::Splitting::rises_more, crate::proofs::Splitting::rises_end, crate::proofs::Splitting::lawful_is))]
+#[tactic(auto, using(crate::proofs::Testing::tests))]
 pub fn is_lawful(bands: &[Band], last: Units) -> bool
     ensures { result ≡ rules.lawful_table bands.now last.units }
 {
@@ -112,17 +112,14 @@ impl Tariff for Tiers {
     ghost alike = { λ t _. tiers_alike (bands_of t) t.last.units };
 
     fn cheapest(&self) -> Units {
-        match self.bands() {
-            [first, ..] => first.price,
-            [] => self.last,
-        }
+        self.bands().first().map_or(self.last, |first| first.price)
     }
 
     fn dearest(&self) -> Units {
         self.last
     }
 
-    #[tactic(auto, using(crate::proofs::Splitting::charges_small))]
+    #[tactic(auto, using(crate::proofs::Charging::charges_small))]
     fn charge(&self, sheet: &Sheet) -> Result<Units, TariffFault> {
         Ok(self.split(sheet).charge())
     }

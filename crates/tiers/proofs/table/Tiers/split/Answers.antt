@@ -2,7 +2,8 @@ use Rattle.std.proofs.Common.{get_or, ap, arith}
 use Rattle.sheet.specs.declared.sums.SixSums.{SixSums}
 use Rattle.tiers.specs.Climbing.{table_prices, limit_is}
 use Rattle.tiers.specs.Tables.{bands_of}
-use Rattle.tiers.proofs.Splitting.{no_band, none_split, split_more}
+use Rattle.tiers.proofs.Splitting.{none_split, split_more}
+use Rattle.tiers.proofs.Testing.{no_band}
 use Rattle.tiers.proofs.table.Tiers.split.Goals as goal
 
 pub loop-band-init : goal.loop-band-init

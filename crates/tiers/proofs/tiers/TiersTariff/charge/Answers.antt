@@ -1,4 +1,4 @@
-use Rattle.tiers.proofs.Splitting.{charged}
+use Rattle.tiers.proofs.Charging.{charged}
 use Rattle.tiers.proofs.tiers.TiersTariff.charge.Goals as goal
 
 pub returns : goal.returns
