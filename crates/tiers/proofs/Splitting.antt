@@ -74,6 +74,7 @@ pub split_last : (rows : List Row) (bands : List Band) (last before i : ℕ) (do
 unfolding split_from
 split_last rows bands last before i done s end priced inv =
     let tail = at_drop_all (λ l. split_from before l last rows) bands i end in
-    ap (λ (x : Share). done ++ x ∷ []) priced ∙ ap (λ l. done ++ l) (sym tail) ∙ inv.so_far
+    let so_far = inv.so_far in
+    cc
 
 pub ruleset splits = (months_few, multi_among, whole_small, reaches, split_last, limit_is, table_whole)
