@@ -1,7 +1,7 @@
 -- A flat price is lawful, and so is time of use over what is lawful. Proofs, which stand here since laws cite them.
-use Rattle.std.specs.Prelude.{◌≡◌, ℕ, ◌+◌, ◌-◌, ◌*◌, ◌≤◌, min, max, true, ◌&&◌}
-use Rattle.std.proofs.Common.{arith, add-mul, mul-add, mul-zero, mul-le-mul, mul-le-mul_left, mul-le-mul_right, ap, ap₂, ◌∙◌}
-use Rattle.std.proofs.lemmas.Bool.{le-leb}
+use Rattle.std.specs.Prelude.{◌≡◌, ℕ, ◌+◌, ◌-◌, ◌*◌, ◌≤◌, min, max, true}
+use Rattle.std.proofs.Common.{arith, add-mul, mul-add, mul-zero, mul-le-mul, mul-le-mul_left, mul-le-mul_right, ap, ◌∙◌}
+use Rattle.std.proofs.lemmas.Bool.Decides.{nat_tests}
 use Rattle.sheet.specs.Sums.{total, timed_peak, timed_heating, timed_other}
 use Rattle.sheet.proofs.Adding.{timed_in_total}
 use Rattle.tariff.specs.Flat.{flat_rate, is_price}
@@ -33,11 +33,10 @@ raised_small tot dear charge rise p hp ht hd most =
 
 -- prices, rises and cuts within their limits
 pub within_price : (price : ℕ) → 1 ≤ price → price ≤ 20000 → is_price price ≡ true
-within_price price low high = ap₂ ◌&&◌ (le-leb 1 price low) (le-leb price 20000 high)
+within_price price low high = grind (arith, nat_tests)
 
 pub within_changes : (c : Changes) → c.rise.units ≤ 20000 → c.ordinary.units ≤ 20000 → c.heating.units ≤ 20000 → are_changes c ≡ true
-within_changes c rise ordinary heating =
-    ap₂ ◌&&◌ (ap₂ ◌&&◌ (le-leb c.rise.units 20000 rise) (le-leb c.ordinary.units 20000 ordinary)) (le-leb c.heating.units 20000 heating)
+within_changes c rise ordinary heating = grind (arith, nat_tests)
 
 -- a flat price is lawful
 pub flat_lawful : (price : ℕ) → price ≤ 20000 → Lawful (flat_rate price)

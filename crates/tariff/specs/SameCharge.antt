@@ -1,7 +1,6 @@
 -- On tiers or a flat price, bare or under layers, sheets alike in the six sums cost the same. Proofs, which stand here since laws cite them.
-use Rattle.std.specs.Prelude.{◌≡◌, ℕ, ◌+◌, ◌-◌, ◌*◌, min, Bool, true, false, cond, ◌&&◌, List, [], ◌∷◌, Some, None, refl}
-use Rattle.std.proofs.Common.{mul-add, mul-one, mul-zero, arith, ap, ap₂, ◌∙◌}
-use Rattle.sheet.specs.Rows.{kwh_of}
+use Rattle.std.specs.Prelude.{◌≡◌, ℕ, ◌+◌, ◌-◌, ◌*◌, Bool, true, false, cond, ◌&&◌, List, [], ◌∷◌, refl}
+use Rattle.std.proofs.Common.{mul-add, mul-one, mul-zero, arith, ap, ap₂}
 use Rattle.sheet.specs.Sums.{sum_from, total, row_counted, row_multi, counted_months, multi_months, six_sums}
 use Rattle.sheet.specs.declared.row.Row.{Row}
 use Rattle.sheet.specs.declared.sums.SixSums.{SixSums}
@@ -9,9 +8,8 @@ use Rattle.tariff.specs.Flat.{flat_rate}
 use Rattle.tariff.specs.Layer.{used, layer_rate}
 use Rattle.tariff.specs.Plain.{Plain, flat, tiers, layer, Alike}
 use Rattle.tariff.specs.Rate.{Rate}
-use Rattle.tariff.specs.Tiered.{row_standard, limit, share, split_from, charges, tier_rate}
+use Rattle.tariff.specs.Tiered.{row_standard, limit, split_from, charges, tier_rate}
 use Rattle.tariff.specs.declared.band.Band.{Band}
-use Rattle.tariff.specs.declared.band.Share.{Share}
 use Rattle.tariff.specs.declared.changes.Changes.{Changes}
 
 one_row : (s m : ℕ) (counted multi : Bool) (l c k : ℕ) → l + s * k ≡ s * c + m * k
@@ -49,13 +47,12 @@ same_total x y e = ap (λ (z : SixSums). z.total.kwh) e
 
 same_split : (bs : List Band) (last a b : ℕ) (x y : List Row) → six_sums x ≡ six_sums y → a ≡ b → split_from a bs last x ≡ split_from b bs last y
 unfolding split_from
-same_split [] last a b x y e h = ap₂ (λ (n : ℕ) (k : ℕ). share last None (n - min n k) ∷ []) (same_total x y e) h
+same_split [] last a b x y e h = let n = same_total x y e in cc
 same_split (t ∷ ts) last a b x y e h =
     let n = same_total x y e in
     let l : limit t x ≡ limit t y = same_limit t x y e in
-    let u : min (total x) (limit t x) ≡ min (total y) (limit t y) = ap₂ min n l in
-    let v : min (total x) a ≡ min (total y) b = ap₂ min n h in
-    ap₂ (λ (s : Share) (ss : List Share). s ∷ ss) (ap₂ (λ (m : ℕ) (p : ℕ). share t.price.units (Some (kwh_of m)) (p - min (total x) a)) l u ∙ ap (λ (q : ℕ). share t.price.units (Some (kwh_of (limit t y))) (min (total y) (limit t y) - q)) v) (same_split ts last (limit t x) (limit t y) x y e l)
+    let rest = same_split ts last (limit t x) (limit t y) x y e l in
+    cc
 
 pub flat_alike : (price : ℕ) → Alike (flat_rate price)
 flat_alike price x y e = ap (λ (z : SixSums). price * z.total.kwh) e

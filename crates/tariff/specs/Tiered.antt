@@ -1,5 +1,5 @@
 -- What tiers mean: how far each reaches, what each takes of a year, and what that costs.
-use Rattle.std.specs.Prelude.{ℕ, ◌+◌, ◌-◌, ◌*◌, min, cond, List, [], ◌∷◌, Some, None, Option}
+use Rattle.std.specs.Prelude.{ℕ, ◌-◌, ◌*◌, min, cond, List, [], ◌∷◌, Some, None, Option, sum_by}
 use Rattle.sheet.specs.Rows.{kwh_of}
 use Rattle.sheet.specs.Sums.{sum_from, total}
 use Rattle.sheet.specs.declared.quantity.Kwh.{Kwh}
@@ -32,14 +32,12 @@ abbrev pub split : List Band → (last : ℕ) → List Row → List Share
 split bands last rows = split_from 0 bands last rows
 
 -- the kWh of all the shares
-unfoldable pub kwhs : List Share → ℕ
-kwhs [] = 0
-kwhs (s ∷ ss) = s.kwh.kwh + kwhs ss
+abbrev pub kwhs : List Share → ℕ
+kwhs = sum_by (λ s. s.kwh.kwh)
 
 -- what all the shares cost
-unfoldable pub charges : List Share → ℕ
-charges [] = 0
-charges (s ∷ ss) = s.charge.units + charges ss
+abbrev pub charges : List Share → ℕ
+charges = sum_by (λ s. s.charge.units)
 
 abbrev pub first_price : List Band → (last : ℕ) → ℕ
 first_price [] last = last

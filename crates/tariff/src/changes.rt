@@ -1,5 +1,5 @@
 //! What time of use changes in the price of a kWh.
-ghost use Rattle.std.specs.Prelude.{◌≡◌};
+ghost use Rattle.std.specs.Prelude.{◌≡◌, min};
 ghost use Rattle.tariff.specs.Values.{changes};
 
 use sheet::quantity::Units;
@@ -22,5 +22,13 @@ impl Changes {
             ordinary: Units { units: ordinary },
             heating: Units { units: heating },
         }
+    }
+
+    /// The ordinary and the heating cut as they are used: neither takes more than the cheapest price below.
+    pub(crate) fn used_cuts(&self, cheapest: Units) -> (Units, Units)
+        ensures ordinary { result.0.units ≡ min self.now.ordinary.units cheapest.units }
+        ensures heating { result.1.units ≡ min self.now.heating.units cheapest.units }
+    {
+        (self.ordinary.min(cheapest), self.heating.min(cheapest))
     }
 }

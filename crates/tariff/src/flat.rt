@@ -11,6 +11,9 @@ use crate::tariff::Tariff;
 use sheet::quantity::Units;
 use sheet::sheet::Sheet;
 
+/// The most that a price, a rise or a cut may be.
+pub(crate) const PRICE_LIMIT: Units = Units { units: 20_000 };
+
 /// A flat price: one for every kWh.
 #[derive(Clone, Copy)]
 pub struct Flat {
@@ -23,7 +26,7 @@ pub struct Flat {
 pub fn is_price(price: Units) -> bool
     ensures { result ≡ is_price price.units }
 {
-    (1..=20_000).contains(&price.units)
+    (1..=PRICE_LIMIT.units).contains(&price.units)
 }
 
 impl Flat {
@@ -58,6 +61,7 @@ impl Tariff for Flat {
         self.price
     }
 
+    #[tactic(auto, using(crate::proofs::Bounds::bounds))]
     fn charge(&self, sheet: &Sheet) -> Result<Units, TariffFault> {
         Ok(Units {
             units: self.price.units * sheet.total().kwh,

@@ -7,6 +7,7 @@ ghost use Rattle.tariff.specs.SameCharge.{layer_alike};
 ghost use Rattle.tariff.specs.Layered.{layer_lawful, within_changes};
 
 use crate::changes::Changes;
+use crate::flat::PRICE_LIMIT;
 use crate::refusal::TariffFault;
 use crate::tariff::Tariff;
 use sheet::quantity::Units;
@@ -33,7 +34,7 @@ impl<T: Drop> TimeOfUse<T> {
             ordinary,
             heating,
         } = changes;
-        if rise.units > 20_000 || ordinary.units > 20_000 || heating.units > 20_000 {
+        if rise > PRICE_LIMIT || ordinary > PRICE_LIMIT || heating > PRICE_LIMIT {
             return Err(TariffFault::Unlawful);
         }
         Ok(TimeOfUse { below, changes })
@@ -52,11 +53,10 @@ impl<T: Tariff> Tariff for TimeOfUse<T> {
     ghost alike = { λ t below. layer_alike (T.Tariff.rate t.below) t.changes (T.Tariff.alike t.below below) };
 
     fn cheapest(&self) -> Units {
-        let below = self.below.cheapest().units;
-        let ordinary = self.changes.ordinary.units.min(below);
-        let heating = self.changes.heating.units.min(below);
+        let below = self.below.cheapest();
+        let (ordinary, heating) = self.changes.used_cuts(below);
         Units {
-            units: below - ordinary.max(heating),
+            units: below.units - ordinary.max(heating).units,
         }
     }
 
@@ -67,18 +67,18 @@ impl<T: Tariff> Tariff for TimeOfUse<T> {
         }
     }
 
+    #[tactic(auto, using(crate::proofs::Bounds::bounds))]
     fn charge(&self, sheet: &Sheet) -> Result<Units, TariffFault> {
         if self.dearest().units > 100_000 {
             return Err(TariffFault::TooDear);
         }
         let below = self.below.charge(sheet)?;
-        let cheapest = self.below.cheapest().units;
         let sums = sheet.six_sums();
         let rise = self.changes.rise.units * sums.peak.kwh;
-        let heating = self.changes.heating.units.min(cheapest) * sums.heating.kwh;
-        let ordinary = self.changes.ordinary.units.min(cheapest) * sums.other.kwh;
+        let (ordinary, heating) = self.changes.used_cuts(self.below.cheapest());
+        let cuts = ordinary.units * sums.other.kwh + heating.units * sums.heating.kwh;
         Ok(Units {
-            units: below.units + rise - (heating + ordinary),
+            units: below.units + rise - cuts,
         })
     }
 }

@@ -1,2 +1,4 @@
+pub mod Testing
 pub mod Splitting
+pub mod Charging
 pub mod Figured

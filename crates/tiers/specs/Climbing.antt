@@ -1,16 +1,16 @@
 -- What a lawful tier table keeps to: prices and limits that never fall. Proofs, which stand here since laws cite them.
 use Rattle.std.specs.Prelude.{◌≡◌, ℕ, ◌+◌, ◌-◌, ◌*◌, ◌≤◌, Bool, true, false, cond, List, [], ◌∷◌, length, nat_le}
 use Rattle.std.proofs.Common.{arith, add-mul, mul_comm, ap}
-use Rattle.std.proofs.lemmas.Bool.{and_parts, leb-true}
+use Rattle.std.proofs.lemmas.Bool.{and_parts}
+use Rattle.std.proofs.lemmas.Bool.Decides.{nat_tests}
 use Rattle.sheet.specs.Sums.{sum_from, counted_months, multi_months, six_sums}
 use Rattle.sheet.specs.declared.row.Row.{Row}
 use Rattle.sheet.specs.declared.sums.SixSums.{SixSums}
 use Rattle.sheet.proofs.Adding.{multi_among_counted}
-use Rattle.tariff.specs.Flat.{is_price}
 use Rattle.tariff.specs.Tiered.{row_standard, limit, first_price}
 use Rattle.tariff.specs.declared.band.Band.{Band}
 use Rattle.tariff.specs.SameCharge.{limit_by_months}
-use Rattle.tariff.specs.Table.{in_range, not_below, may_follow, rises, lowest, lawful_table}
+use Rattle.tariff.specs.Table.{may_follow, rises, lowest, lawful_table}
 
 -- one tier of a rising table
 pub record Step (a b : Band) (bs : List Band) (last : ℕ) : Type 0 where
@@ -24,33 +24,20 @@ pub record Step (a b : Band) (bs : List Band) (last : ℕ) : Type 0 where
 
 pub step : (a b : Band) (bs : List Band) (last : ℕ) → rises a (b ∷ bs) last ≡ true → Step a b bs last
 unfolding rises
-step a b bs last h =
-    let parts = and_parts (may_follow a b) (rises b bs last) h in
-    let follow = and_parts (in_range b) (not_below a b) parts.0 in
-    let high = and_parts _ (nat_le b.multi.kwh 10000) follow.0 in
-    let apart = and_parts _ (nat_le b.ordinary.kwh b.multi.kwh) high.0 in
-    let low = and_parts (is_price b.price.units) (nat_le 1 b.ordinary.kwh) apart.0 in
-    let price = and_parts (nat_le 1 b.price.units) (nat_le b.price.units 20000) low.0 in
-    let wider = and_parts _ (nat_le a.multi.kwh b.multi.kwh) follow.1 in
-    let further = and_parts (nat_le a.price.units b.price.units) (nat_le a.ordinary.kwh b.ordinary.kwh) wider.0 in
-    let multi = leb-true b.multi.kwh 10000 high.1 in
-    let before = leb-true b.ordinary.kwh b.multi.kwh apart.1 in
-    record {
-      priced = leb-true b.price.units 20000 price.1;
-      ordinary = omega arith;
-      multi = multi;
-      dearer = leb-true a.price.units b.price.units further.0;
-      further = leb-true a.ordinary.kwh b.ordinary.kwh further.1;
-      wider = leb-true a.multi.kwh b.multi.kwh wider.1;
-      rest = parts.1;
-    }
+step a b bs last h = record {
+  priced = grind (arith, nat_tests);
+  ordinary = grind (arith, nat_tests);
+  multi = grind (arith, nat_tests);
+  dearer = grind (arith, nat_tests);
+  further = grind (arith, nat_tests);
+  wider = grind (arith, nat_tests);
+  rest = (and_parts (may_follow a b) (rises b bs last) h).1;
+}
 
 -- no price is above the last, and that is at most 20,000
 pub last_dearest : (a : Band) (bs : List Band) (last : ℕ) → rises a bs last ≡ true → (a.price.units ≤ last) × (last ≤ 20000)
 unfolding rises
-last_dearest a [] last h =
-    let parts = and_parts (is_price last) (nat_le a.price.units last) h in
-    (leb-true a.price.units last parts.1, leb-true last 20000 (and_parts (nat_le 1 last) (nat_le last 20000) parts.0).1)
+last_dearest a [] last h = (grind (arith, nat_tests), grind (arith, nat_tests))
 last_dearest a (b ∷ bs) last h =
     let s = step a b bs last h in
     let r = last_dearest b bs last s.rest in

@@ -1,15 +1,8 @@
 -- The values of the published tariffs, in units of 0.0001 yuan and kWh a month.
 use Rattle.std.specs.Prelude.{ℕ, List, [], ◌∷◌}
-use Rattle.sheet.specs.Rows.{kwh_of}
-use Rattle.tariff.specs.Faults.{units_of}
+use Rattle.tariff.specs.Values.{band, changes}
 use Rattle.tariff.specs.declared.band.Band.{Band}
 use Rattle.tariff.specs.declared.changes.Changes.{Changes}
-
-abbrev pub band : (price ordinary multi : ℕ) → Band
-band p o m = record { price = units_of p; ordinary = kwh_of o; multi = kwh_of m }
-
-abbrev pub changes : (rise ordinary heating : ℕ) → Changes
-changes u o h = record { rise = units_of u; ordinary = units_of o; heating = units_of h }
 
 -- Shandong's tiers but the last, and the last price
 abbrev pub shandong_first : Band

@@ -1,6 +1,7 @@
 -- The laws of a tier table: what its shares cost together. Proofs, which stand here since laws cite them.
 use Rattle.std.specs.Prelude.{◌≡◌, ℕ, ◌+◌, ◌-◌, ◌*◌, ◌≤◌, min, true, List, [], ◌∷◌}
 use Rattle.std.proofs.Common.{arith, mul-add, mul_comm, mul-le-mul, mul-le-mul_left, mul-le-mul_right, ap}
+use Rattle.std.proofs.lemmas.List.Sums.{sum_by-cons}
 use Rattle.sheet.specs.Rows.{Proper}
 use Rattle.sheet.specs.Sums.{total}
 use Rattle.sheet.specs.declared.row.Row.{Row}
@@ -8,20 +9,21 @@ use Rattle.sheet.proofs.Adding.{total_small}
 use Rattle.tariff.specs.Rate.{Lawful}
 use Rattle.tariff.specs.Tiered.{limit, split_from, split, kwhs, charges, first_price, tier_rate}
 use Rattle.tariff.specs.declared.band.Band.{Band}
+use Rattle.tariff.specs.declared.band.Share.{Share}
 use Rattle.tariff.specs.Table.{rises, lowest, lawful_table}
 use Rattle.tiers.specs.Climbing.{Climbs, step, last_dearest, first_cheapest, table_rises, table_climbs, table_prices}
 
 -- the tiers take all kWh past the limit before them
 whole_from : (rows : List Row) (before : ℕ) (bs : List Band) (last : ℕ) → Climbs rows before bs
     → kwhs (split_from before bs last rows) + min (total rows) before ≡ total rows
-unfolding split_from kwhs
+unfolding split_from
 whole_from rows before [] last c = omega arith
-whole_from rows before (b ∷ bs) last c = omega (arith, whole_from rows (limit b rows) bs last c.4, c.0)
+whole_from rows before (b ∷ bs) last c = omega (arith, whole_from rows (limit b rows) bs last c.4, c.0, sum_by-cons {X = Share})
 
 -- the tiers cost at least q for every kWh past the limit before them, where q is at most the first of their prices
 least_from : (rows : List Row) (before q : ℕ) (a : Band) (bs : List Band) (last : ℕ) → rises a bs last ≡ true → q ≤ first_price bs last
     → q * (total rows - min (total rows) before) ≤ charges (split_from before bs last rows)
-unfolding split_from charges
+unfolding split_from
 least_from rows before q a [] last h low =
     let left = total rows - min (total rows) before in
     omega (arith, mul-le-mul_right left low, mul_comm last left)
@@ -35,6 +37,7 @@ least_from rows before q a (b ∷ bs) last h low =
     let next : q ≤ first_price bs last = omega (arith, (first_cheapest b bs last s.rest).0) in
     omega (
       arith,
+      sum_by-cons {X = Share},
       least_from rows (limit b rows) q b bs last s.rest next,
       mul-le-mul_left here low,
       mul_comm q here,
@@ -45,7 +48,7 @@ least_from rows before q a (b ∷ bs) last h low =
 -- they cost at most the last price for each of those kWh
 most_from : (rows : List Row) (before : ℕ) (a : Band) (bs : List Band) (last : ℕ) → rises a bs last ≡ true → Climbs rows before bs
     → charges (split_from before bs last rows) ≤ last * (total rows - min (total rows) before)
-unfolding split_from charges
+unfolding split_from
 most_from rows before a [] last h c = omega (arith, mul_comm last (total rows - min (total rows) before))
 most_from rows before a (b ∷ bs) last h c =
     let s = step a b bs last h in
@@ -56,6 +59,7 @@ most_from rows before a (b ∷ bs) last h c =
     let parts : here + left ≡ all - min all before = omega (arith, c.0) in
     omega (
       arith,
+      sum_by-cons {X = Share},
       most_from rows (limit b rows) b bs last s.rest c.4,
       mul-le-mul_left here (last_dearest b bs last s.rest).0,
       mul_comm last here,

@@ -5,44 +5,21 @@ ghost use Rattle.tiers.specs.Published as values;
 ghost use Rattle.tiers.specs.Tables.{bands_of};
 
 use crate::table::Tiers;
-use sheet::quantity::{Kwh, Units};
+use sheet::quantity::Units;
 use tariff::band::Band;
 use tariff::changes::Changes;
 use tariff::flat::Flat;
 use tariff::time_of_use::TimeOfUse;
 
-fn band(price: u64, ordinary: u64, multi: u64) -> Band
-    ensures { result ≡ values.band price ordinary multi }
-{
-    Band {
-        price: Units { units: price },
-        ordinary: Kwh { kwh: ordinary },
-        multi: Kwh { kwh: multi },
-    }
-}
-
-fn changes(rise: u64, ordinary: u64, heating: u64) -> Changes
-    ensures { result ≡ values.changes rise ordinary heating }
-{
-    Changes {
-        rise: Units { units: rise },
-        ordinary: Units { units: ordinary },
-        heating: Units { units: heating },
-    }
-}
-
 /// Shandong's three tiers. What they come to in a year is the table of figures.
+#[tactic(auto, using(crate::proofs::Figured::shandong_lawful, crate::proofs::Figured::figures))]
 pub fn shandong() -> Tiers
     ensures bands { bands_of result ≡ values.shandong_bands }
     ensures last { result.last.units ≡ values.shandong_last }
     ensures figures { Figures }
 {
-    let second = band(5969, 400, 400);
-    Tiers {
-        bands: [band(5469, 210, 310), second, second, second, second],
-        count: 2,
-        last: Units { units: 8469 },
-    }
+    let bands = [Band::new(5469, 210, 310), Band::new(5969, 400, 400)];
+    Tiers::new(&bands, Units { units: 8469 }).unwrap()
 }
 
 /// Shandong's tiers under its time of use.
@@ -51,20 +28,14 @@ pub fn shandong_time_of_use() -> TimeOfUse<Tiers>
     ensures last { result.below.last.units ≡ values.shandong_last }
     ensures changes { result.changes ≡ values.shandong_changes }
 {
-    match TimeOfUse::new(shandong(), changes(300, 1700, 2000)) {
-        Ok(tariff) => tariff,
-        Err(_) => unreachable(),
-    }
+    TimeOfUse::new(shandong(), Changes::new(300, 1700, 2000)).unwrap()
 }
 
 /// The flat price of shared meters.
 pub fn shared_meters() -> Flat
     ensures { result.price.units ≡ values.shared }
 {
-    match Flat::new(Units { units: 5550 }) {
-        Ok(tariff) => tariff,
-        Err(_) => unreachable(),
-    }
+    Flat::new(Units { units: 5550 }).unwrap()
 }
 
 /// The price of chargers: that of shared meters under a time of use of their own.
@@ -72,8 +43,5 @@ pub fn chargers() -> TimeOfUse<Flat>
     ensures price { result.below.price.units ≡ values.shared }
     ensures changes { result.changes ≡ values.charger_changes }
 {
-    match TimeOfUse::new(shared_meters(), changes(1700, 1700, 1700)) {
-        Ok(tariff) => tariff,
-        Err(_) => unreachable(),
-    }
+    TimeOfUse::new(shared_meters(), Changes::new(1700, 1700, 1700)).unwrap()
 }

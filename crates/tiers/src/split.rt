@@ -1,5 +1,5 @@
 //! What each tier takes of a year.
-ghost use Rattle.std.specs.Prelude.{◌≡◌, ◌+◌, ◌-◌, ◌*◌, ◌≤◌};
+ghost use Rattle.std.specs.Prelude.{◌≡◌, ◌+◌, ◌-◌, ◌*◌, ◌^◌, ◌<◌, ◌≤◌, [], ◌∷◌, ◌++◌};
 ghost use Rattle.sheet.specs.Sums.{total};
 ghost use Rattle.tariff.specs.Tiered as means;
 ghost use Rattle.tiers.specs.Tables.{bands_of};
@@ -39,36 +39,61 @@ fn share(price: Units, limit: Option<Kwh>, kwh: u64) -> Share
 }
 
 impl Split {
+    // No shares yet: those in the array are not in use.
+    fn none() -> Split
+        ensures shares { shares_of result ≡ [] }
+        ensures count { result.count ≡ 0 }
+    {
+        Split {
+            shares: [share(Units { units: 0 }, None, 0); 6],
+            count: 0,
+        }
+    }
+
+    fn push(&mut self, share: Share)
+        requires { self.old.count < 6 }
+        ensures shares { shares_of self.new ≡ shares_of self.old ++ share ∷ [] }
+        ensures count { self.new.count ≡ self.old.count + 1 }
+    {
+        self.shares[self.count] = share;
+        self.count += 1;
+    }
+
     /// The share of each tier, the first tier first.
     pub fn shares(&self) -> &[Share]
         ensures { result.now ≡ shares_of self.now }
     {
-        &self.shares[0..self.count]
+        &self.shares[..self.count]
+    }
+
+    // What all the shares cost.
+    pub(crate) fn charge(&self) -> Units
+        requires { means.charges (shares_of self.now) < 2 ^ 64 }
+        ensures { result.units ≡ means.charges (shares_of self.now) }
+    {
+        let units: u64 = self.shares().iter().map(|share| share.charge.units).sum();
+        Units { units }
     }
 }
 
 impl Tiers {
     /// What each tier takes of the sheet's kWh, and what that costs; all together they take all of it.
+    #[tactic(auto, using(crate::proofs::Splitting::splits))]
     pub fn split(&self, sheet: &Sheet) -> Split
         ensures shares { shares_of result ≡ means.split (bands_of self.now) self.now.last.units sheet.now.rows }
         ensures whole { means.kwhs (shares_of result) ≡ total sheet.now.rows }
     {
         let sums = sheet.six_sums();
         let total = sums.total.kwh;
-        let bands = self.bands();
-        let mut shares = [share(Units { units: 0 }, None, 0); 6];
+        let mut split = Split::none();
         let mut before = 0;
-        for (i, band) in bands.iter().enumerate() {
+        for band in self.bands() {
             let reach = limit(band, &sums);
             let takes = total.min(reach) - total.min(before);
-            shares[i] = share(band.price, Some(Kwh { kwh: reach }), takes);
+            split.push(share(band.price, Some(Kwh { kwh: reach }), takes));
             before = reach;
         }
-        let count = bands.len();
-        shares[count] = share(self.last, None, total - total.min(before));
-        Split {
-            shares,
-            count: count + 1,
-        }
+        split.push(share(self.last, None, total - total.min(before)));
+        split
     }
 }

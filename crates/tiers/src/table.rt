@@ -8,6 +8,7 @@ use tariff::band::Band;
 /// One to six tiers: up to five with standards, of which the first `count` are in use, and the price of the last.
 #[derive(Clone, Copy)]
 pub struct Tiers {
+    // An array and a count: a heap could run out, which no rule knows as a refusal, and an `ArrayVec` is not `Copy`.
     pub(crate) bands: [Band; 5],
     pub(crate) count: usize,
     pub(crate) last: Units,

@@ -15,21 +15,25 @@ use tariff::flat::is_price;
 use tariff::refusal::TariffFault;
 use tariff::tariff::Tariff;
 
+// No tier that is in range falls below this one.
+const LOWEST: Band = Band {
+    price: Units { units: 1 },
+    ordinary: Kwh { kwh: 1 },
+    multi: Kwh { kwh: 1 },
+};
+
 fn in_range(band: &Band) -> bool
     ensures { result ≡ rules.in_range band.now }
 {
     is_price(band.price)
-        && 1 <= band.ordinary.kwh
-        && band.ordinary.kwh <= band.multi.kwh
+        && (1..=band.multi.kwh).contains(&band.ordinary.kwh)
         && band.multi.kwh <= 10_000
 }
 
 fn not_below(before: &Band, band: &Band) -> bool
     ensures { result ≡ rules.not_below before.now band.now }
 {
-    before.price <= band.price
-        && before.ordinary <= band.ordinary
-        && before.multi <= band.multi
+    before.price <= band.price && before.ordinary <= band.ordinary && before.multi <= band.multi
 }
 
 fn may_follow(before: &Band, band: &Band) -> bool
@@ -41,27 +45,18 @@ fn may_follow(before: &Band, band: &Band) -> bool
 fn may_end(before: &Band, last: Units) -> bool
     ensures { result ≡ rules.may_end before.now last.units }
 {
-    is_price(last) && before.price.units <= last.units
-}
-
-fn lowest() -> Band
-    ensures { result ≡ rules.lowest }
-{
-    Band {
-        price: Units { units: 1 },
-        ordinary: Kwh { kwh: 1 },
-        multi: Kwh { kwh: 1 },
-    }
+    is_price(last) && before.price <= last
 }
 
 /// Whether tiers but the last, and the price of the last, keep the rules of a tier table.
+#[tactic(auto, using(crate::proofs::Testing::tests))]
 pub fn is_lawful(bands: &[Band], last: Units) -> bool
     ensures { result ≡ rules.lawful_table bands.now last.units }
 {
     if bands.len() > 5 {
         return false;
     }
-    let mut before = lowest();
+    let mut before = LOWEST;
     for band in bands {
         if !may_follow(&before, band) {
             return false;
@@ -76,10 +71,8 @@ fn copied(bands: &[Band]) -> [Band; 5]
     ensures same { take (length bands.now) result ≡ bands.now }
     ensures five { length result ≡ 5 }
 {
-    let mut all = [lowest(); 5];
-    for (i, band) in bands.iter().enumerate() {
-        all[i] = *band;
-    }
+    let mut all = [LOWEST; 5];
+    all[..bands.len()].copy_from_slice(bands);
     all
 }
 
@@ -103,7 +96,7 @@ impl Tiers {
     pub fn bands(&self) -> &[Band]
         ensures { result.now ≡ bands_of self.now }
     {
-        &self.bands[0..self.count]
+        &self.bands[..self.count]
     }
 }
 
@@ -119,23 +112,15 @@ impl Tariff for Tiers {
     ghost alike = { λ t _. tiers_alike (bands_of t) t.last.units };
 
     fn cheapest(&self) -> Units {
-        match self.bands() {
-            [first, ..] => first.price,
-            [] => self.last,
-        }
+        self.bands().first().map_or(self.last, |first| first.price)
     }
 
     fn dearest(&self) -> Units {
         self.last
     }
 
+    #[tactic(auto, using(crate::proofs::Charging::charges_small))]
     fn charge(&self, sheet: &Sheet) -> Result<Units, TariffFault> {
-        let split = self.split(sheet);
-        let shares = split.shares();
-        let mut sum = 0;
-        for share in shares {
-            sum += share.charge.units;
-        }
-        Ok(Units { units: sum })
+        Ok(self.split(sheet).charge())
     }
 }
