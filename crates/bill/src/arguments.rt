@@ -20,6 +20,7 @@ pub fn number(argument: &str, least: u64, most: u64) -> Option<u64>
 fn months(year: &[String; 12]) -> Result<[Kwh; 12], ArgumentFault>
     ensures { MatchResult result (λ kwh. Months (map string_bytes year.now) 12 kwh) (λ e. Fault (map string_bytes year.now) e) }
 {
+    // No `try_map`: of its error no clause says that the months before it could be read.
     let mut kwh = [Kwh { kwh: 0 }; 12];
     for (i, argument) in year.iter().enumerate() {
         let n = number(argument, 0, 999_999).ok_or(ArgumentFault::Kwh { month: i + 1 })?;

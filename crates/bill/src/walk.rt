@@ -30,7 +30,7 @@ impl Iterator for Lines<'_> {
 
 impl Bill {
     /// Its lines, one after the other.
-    pub fn lines(&self) -> Lines
+    pub fn lines(&self) -> Lines<'_>
         ensures { to_come result ≡ lines self.now.sheet.rows }
     {
         Lines {

@@ -40,6 +40,7 @@ impl<'a> ChainedLedger<'a> {
 
     /// The index of a number's newest line; 0 where it has none. Walked from there by `next`, its chain has exactly its
     /// lines, newest first, as many as its count, and they come to its sum.
+    // No `Option`: a walk begins with this index and ends at 0, as a line's next does.
     pub fn newest(&self, number: u64) -> Result<u16, LedgerFault>
         ensures answer { result ≡ means.answer_about 200 (lines.chained_book self.now) number (chain.newest_of self.now.table.now self.now.links.used number) }
         ensures chain { IfOk result (λ i. chain.ChainOf lines.fen_of self.now.table.now self.now.links.used number i ((lines.chained_book self.now).count number) ((lines.chained_book self.now).sum number)) }

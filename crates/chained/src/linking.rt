@@ -61,6 +61,7 @@ impl Links {
     }
 
     /// The index of a number's newest record; 0 where it has none.
+    // No `Option`: this is the next index of the record to come, where 0 is the chain's end.
     pub fn newest(&self, number: u64) -> u16
         ensures { result ≡ chain.head self.now.heads number }
     {

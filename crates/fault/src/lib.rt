@@ -16,6 +16,7 @@ pub enum Layer {
 }
 
 /// The number of a refusal, its layer, and its place within what was refused (0 where it has none).
+// No `Option` for the place: the rules write 0 there.
 #[derive(Clone, Copy, PartialEq, Eq, Debug)]
 pub struct Code {
     pub number: u8,

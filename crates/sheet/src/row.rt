@@ -17,6 +17,7 @@ pub struct Row {
 pub type YearRows = [Row; 12];
 
 /// What is booked into a month's row.
+// Its kinds are closed: of a closure in its place no clause could say how many kWh it adds.
 #[derive(Clone, Copy)]
 pub enum Booking {
     /// The consumption of both registers.
