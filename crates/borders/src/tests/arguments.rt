@@ -1,8 +1,15 @@
 //! The arguments of the program `year`: what is understood, and what is said of the others.
 use bill::arguments::household;
 use bill::bill::Bill;
+use bill::household::Household;
+use bill::lines::Line;
 use std::alloc::{AllocError, Global};
 use std::test::Fail;
+
+fn last_line(year: &Household) -> Option<Line> {
+    let bill = Bill::new(year)?;
+    bill.line(bill.len().checked_sub(1)?)
+}
 
 // The last line of the bill, or what is wrong with the arguments.
 fn answer(heap: Global, text: &str) -> Result<String, AllocError> {
@@ -10,13 +17,10 @@ fn answer(heap: Global, text: &str) -> Result<String, AllocError> {
     for argument in text.split(' ') {
         arguments.push(String::from_str(heap, argument)?)?;
     }
-    match household(arguments.as_slice()) {
-        Ok(year) => match Bill::new(&year) {
-            Some(bill) => match bill.line(bill.len().saturating_sub(1)) {
-                Some(line) => line.to_string(heap),
-                None => String::from_str(heap, "no line"),
-            },
-            None => String::from_str(heap, "no bill"),
+    match household(&arguments) {
+        Ok(year) => match last_line(&year) {
+            Some(line) => line.to_string(heap),
+            None => String::from_str(heap, "no line"),
         },
         Err(fault) => fault.to_string(heap),
     }

@@ -1,8 +1,17 @@
 //! Units as fen, heating months, and what a refusal tells.
 use super::units;
-use fault::{Layer, Refusal};
+use fault::{Code, Layer, Refusal};
 use sheet::sums::is_heating;
 use tariff::refusal::TariffFault;
+
+// What a refusal of a tariff tells: there is no place within it.
+fn of_tariff(number: u8) -> Code {
+    Code {
+        number,
+        layer: Layer::Tariff,
+        place: 0,
+    }
+}
 
 #[test]
 fn fen_months_and_refusals(rt: HostRuntime) {
@@ -13,12 +22,6 @@ fn fen_months_and_refusals(rt: HostRuntime) {
     assert_eq!(rt; units(150).to_fen().fen, 2);
     assert!(rt; !is_heating(0) && is_heating(1) && is_heating(4) && !is_heating(5));
     assert!(rt; !is_heating(11) && is_heating(12));
-    let dear = TariffFault::TooDear.code();
-    let unlawful = TariffFault::Unlawful.code();
-    assert_eq!(rt; dear.number, 11);
-    assert_eq!(rt; unlawful.number, 16);
-    assert_eq!(rt; dear.layer, Layer::Tariff);
-    assert_eq!(rt; unlawful.layer, Layer::Tariff);
-    assert_eq!(rt; dear.place, 0);
-    assert_eq!(rt; unlawful.place, 0);
+    assert_eq!(rt; TariffFault::TooDear.code(), of_tariff(11));
+    assert_eq!(rt; TariffFault::Unlawful.code(), of_tariff(16));
 }

@@ -1,5 +1,6 @@
 //! What years cost by the published tariffs.
 use super::{fen, purchase, reading, sheet_of, with, year};
+use sheet::quantity::Kwh;
 use sheet::row::Marking;
 use sheet::rows::marked_after;
 use std::test::Fail;
@@ -25,10 +26,7 @@ fn tiers_of_shandong(rt: HostRuntime) -> Result<(), Fail> {
     let filed = sheet_of(marked_after(&year(1, 0, 13), 5, Marking::MultiPerson))?;
     let split = shandong().split(&filed);
     assert!(rt; split.shares().len() == 3);
-    let Some(limit) = split.shares()[0].limit else {
-        return Err(Fail::new("the first tier has no limit"));
-    };
-    assert_eq!(rt; limit.kwh, 3_220);
+    assert_eq!(rt; split.shares()[0].limit, Some(Kwh { kwh: 3_220 }));
     let settled = sheet_of(marked_after(march.rows(), 7, Marking::Uncount))?;
     assert_eq!(rt; fen(&shandong(), &settled)?, 60_409);
     Ok(())
