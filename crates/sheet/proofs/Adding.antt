@@ -3,6 +3,7 @@ use Rattle.std.proofs.Common.{◌≡◌, ℕ, ◌+◌, ◌*◌, ◌<◌, ◌≤�
 use Rattle.std.proofs.lemmas.List.{at_drop_more, at_drop_all}
 use Rattle.sheet.specs.Sums.{sum_from, row_kwh, row_counted, row_multi, row_peak, row_heating, row_other, total, counted_months, multi_months, timed_peak, timed_heating, timed_other}
 use Rattle.sheet.specs.Rows.{none, all_fit, Proper}
+use Rattle.sheet.proofs.Fitting.{fits_at}
 use Rattle.sheet.specs.declared.row.Row.{Row}
 use Rattle.sheet.specs.declared.sheet.Sheet.{Sheet}
 
@@ -18,6 +19,8 @@ sum_more f rs i h = at_drop_more (sum_from f (i + 1)) rs i none h
 pub sum_end : (f : ℕ → Row → ℕ) (rs : List Row) (i : ℕ) → length rs ≤ i → sum_from f (i + 1) (drop i rs) ≡ 0
 unfolding sum_from
 sum_end f rs i h = at_drop_all (sum_from f (i + 1)) rs i h
+
+pub ruleset sums = (sum_more, sum_end, fits_at)
 
 -- at most 999,999 a row
 sum_small : (month : ℕ) (rs : List Row) → all_fit rs ≡ true → sum_from row_kwh month rs ≤ length rs * 999999

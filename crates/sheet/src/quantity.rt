@@ -22,7 +22,7 @@ pub struct Fen {
 
 impl Units {
     /// The one way from units to fen: to the nearest fen, a half up.
-    // No `From`, since it loses what it rounds, and the project's rules want one function by this name.
+    // No `From`: it loses what it rounds, and one function is to go from units to fen.
     pub fn to_fen(self) -> Fen
         ensures { result.fen ≡ pos (rounded self.units) }
     {

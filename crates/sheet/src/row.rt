@@ -17,7 +17,7 @@ pub struct Row {
 pub type YearRows = [Row; 12];
 
 /// What is booked into a month's row.
-// Its kinds are closed: of a closure in its place no clause could say how many kWh it adds.
+// An enum and no closure: the rules name these kinds, and callers' contracts match on them.
 #[derive(Clone, Copy)]
 pub enum Booking {
     /// The consumption of both registers.
@@ -27,7 +27,7 @@ pub enum Booking {
 }
 
 /// What becomes of the marks of the rows after a month.
-// Its kinds are closed: a closure in its place could change the kWh too, and no clause could say that marks alone change.
+// An enum and no closure: the rules name these kinds, and callers' contracts match on them.
 #[derive(Clone, Copy)]
 pub enum Marking {
     /// They no longer count.

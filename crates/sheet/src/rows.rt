@@ -6,6 +6,9 @@ use crate::quantity::Kwh;
 use crate::row::{Booking, Marking, Row, YearMarks, YearRows};
 use std::array;
 
+/// The most kWh of a row.
+pub const ROW_LIMIT: u64 = 999_999;
+
 impl Booking {
     // In 128 bits: a caller's kWh may be anything.
     fn kwh(self) -> u128
@@ -20,7 +23,8 @@ impl Booking {
 }
 
 impl Row {
-    fn kwh(self) -> u128
+    /// All its kWh, in 128 bits since a row may hold anything.
+    pub fn kwh(self) -> u128
         ensures is { result ≡ means.kwh self }
         ensures bound { result < 2 ^ 66 }
     {
@@ -31,14 +35,14 @@ impl Row {
     pub fn fits(self) -> bool
         ensures { result ≡ means.fits self }
     {
-        self.kwh() <= 999_999
+        self.kwh() <= u128::from(ROW_LIMIT)
     }
 
     /// The row with the kWh booked, or none where it would hold more than 999,999 kWh.
     pub fn booked(self, booking: Booking) -> Option<Row>
         ensures { result ≡ means.fitting (means.booked booking self) }
     {
-        if self.kwh() + booking.kwh() > 999_999 {
+        if self.kwh() + booking.kwh() > u128::from(ROW_LIMIT) {
             return None;
         }
         let row = match booking {

@@ -23,26 +23,26 @@ pub struct SixSums {
 pub fn is_heating(month: u64) -> bool
     ensures { result ≡ means.heating month }
 {
-    month == 12 || (1..=4).contains(&month)
+    matches!(month, 12 | 1..=4)
 }
 
 impl Sheet {
     /// All the kWh of the twelve rows.
-    #[tactic(auto, using(crate::proofs::Adding::sum_more, crate::proofs::Adding::sum_end, crate::proofs::Adding::proper_of, crate::proofs::Adding::total_small, crate::proofs::Fitting::fits_at))]
+    #[tactic(auto, using(crate::proofs::Adding::sums, crate::proofs::Adding::proper_of, crate::proofs::Adding::total_small))]
     pub fn total(&self) -> Kwh
         ensures { result.kwh ≡ means.total self.now.rows }
     {
-        // The project's rules name this form, a `for` over the rows borrowed as a slice.
+        // A `for` over the rows borrowed as a slice, the form that the project names for this sum.
         let rows: &[Row] = &self.rows;
         let mut sum = 0;
         for row in rows {
-            sum += row.peak.kwh + row.valley.kwh + row.bought.kwh;
+            sum += row.kwh() as u64;
         }
         Kwh { kwh: sum }
     }
 
     // The sum over the rows of what `adds` gives for a month and its row: at most the kWh of the row, or 1, so that the sum fits.
-    #[tactic(auto, using(crate::proofs::Adding::sum_more, crate::proofs::Adding::sum_end, crate::proofs::Fitting::fits_at))]
+    #[tactic(auto, using(crate::proofs::Adding::sums))]
     fn sum_of<F: Fn(u64, Row) -> u64>(&self, adds: F) -> u64
         ghost f: { ℕ → Row → ℕ }
         requires callable { F.IsAlwaysCallable adds }
