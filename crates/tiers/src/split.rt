@@ -5,7 +5,7 @@ ghost use Rattle.tariff.specs.Tiered as means;
 ghost use Rattle.tiers.specs.Tables.{bands_of};
 ghost use Rattle.tiers.specs.Splits.{shares_of};
 
-use crate::shares::{Split, SHARES};
+use crate::shares::{SHARES, Split};
 use crate::table::Tiers;
 use sheet::quantity::{Kwh, Units};
 use sheet::sheet::Sheet;

@@ -7,7 +7,7 @@ ghost use Rattle.tariff.specs.Plain.{tiers};
 ghost use Rattle.tariff.specs.SameCharge.{tiers_alike};
 ghost use Rattle.tiers.specs.Tabled.{table_lawful};
 
-use crate::table::{Tiers, BANDS};
+use crate::table::{BANDS, Tiers};
 use sheet::quantity::{Kwh, Units};
 use sheet::sheet::Sheet;
 use tariff::band::Band;
