@@ -34,9 +34,9 @@ raised_fits r s z u rise met low e is =
     let most : u.units ≤ r.dearest * total s.rows = omega (arith, answered u r s.rows dear e, met.most s.rows proper dear) in
     raised_small (total s.rows) r.dearest u.units rise z.peak.kwh (omega arith) (total_small s.rows proper) low most
 
-pub cuts_within : (r : Rate) (s : Sheet) (z : SixSums) (u : Units) (o h : ℕ) → Lawful r → r.dearest ≤ 100000 → Ok u ≡ answer r s.rows → z ≡ six_sums s.rows
-    → o ≤ r.cheapest → h ≤ r.cheapest → o * z.other.kwh + h * z.heating.kwh ≤ u.units
-cuts_within r s z u o h met dear e is oh hh =
+pub cuts_within : (r : Rate) (s : Sheet) (z : SixSums) (u : Units) (o h more : ℕ) → Lawful r → r.dearest ≤ 100000 → Ok u ≡ answer r s.rows → z ≡ six_sums s.rows
+    → o ≤ r.cheapest → h ≤ r.cheapest → o * z.other.kwh + h * z.heating.kwh ≤ u.units + more
+cuts_within r s z u o h more met dear e is oh hh =
     let parts = timed_in_total s.rows in
     let timed = ap (λ (x : SixSums). x.heating.kwh + x.other.kwh) is in
     omega (

@@ -24,11 +24,14 @@ impl Changes {
         }
     }
 
-    /// The ordinary and the heating cut as they are used: neither takes more than the cheapest price below.
-    pub(crate) fn used_cuts(&self, cheapest: Units) -> (Units, Units)
-        ensures ordinary { result.0.units ≡ min self.now.ordinary.units cheapest.units }
-        ensures heating { result.1.units ≡ min self.now.heating.units cheapest.units }
+    /// As they are used over a tariff of this cheapest price: no cut takes more than it.
+    pub(crate) fn used(&self, cheapest: Units) -> Changes
+        ensures { result ≡ changes self.now.rise.units (min self.now.ordinary.units cheapest.units) (min self.now.heating.units cheapest.units) }
     {
-        (self.ordinary.min(cheapest), self.heating.min(cheapest))
+        Changes {
+            ordinary: self.ordinary.min(cheapest),
+            heating: self.heating.min(cheapest),
+            ..*self
+        }
     }
 }

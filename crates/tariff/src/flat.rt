@@ -11,6 +11,9 @@ use crate::tariff::Tariff;
 use sheet::quantity::Units;
 use sheet::sheet::Sheet;
 
+/// The least that a price may be.
+const LEAST_PRICE: Units = Units { units: 1 };
+
 /// The most that a price, a rise or a cut may be.
 pub(crate) const PRICE_LIMIT: Units = Units { units: 20_000 };
 
@@ -26,7 +29,7 @@ pub struct Flat {
 pub fn is_price(price: Units) -> bool
     ensures { result ≡ is_price price.units }
 {
-    (1..=PRICE_LIMIT.units).contains(&price.units)
+    (LEAST_PRICE..=PRICE_LIMIT).contains(&price)
 }
 
 impl Flat {

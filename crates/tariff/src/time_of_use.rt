@@ -13,6 +13,12 @@ use crate::tariff::Tariff;
 use sheet::quantity::Units;
 use sheet::sheet::Sheet;
 
+/// The most that a dearest price may be.
+const DEAREST_LIMIT: Units = Units { units: 1_000_000 };
+
+/// The most that a dearest price may be for a charge to be answered.
+const ANSWER_LIMIT: Units = Units { units: 100_000 };
+
 /// Time of use over a tariff.
 #[derive(Drop)]
 pub struct TimeOfUse<T> {
@@ -54,29 +60,29 @@ impl<T: Tariff> Tariff for TimeOfUse<T> {
 
     fn cheapest(&self) -> Units {
         let below = self.below.cheapest();
-        let (ordinary, heating) = self.changes.used_cuts(below);
+        let used = self.changes.used(below);
         Units {
-            units: below.units - ordinary.max(heating).units,
+            units: below.units - used.ordinary.max(used.heating).units,
         }
     }
 
     fn dearest(&self) -> Units {
-        let raised = self.below.dearest().units + self.changes.rise.units;
-        Units {
-            units: raised.min(1_000_000),
-        }
+        let raised = Units {
+            units: self.below.dearest().units + self.changes.rise.units,
+        };
+        raised.min(DEAREST_LIMIT)
     }
 
     #[tactic(auto, using(crate::proofs::Bounds::bounds))]
     fn charge(&self, sheet: &Sheet) -> Result<Units, TariffFault> {
-        if self.dearest().units > 100_000 {
+        if self.dearest() > ANSWER_LIMIT {
             return Err(TariffFault::TooDear);
         }
         let below = self.below.charge(sheet)?;
         let sums = sheet.six_sums();
-        let rise = self.changes.rise.units * sums.peak.kwh;
-        let (ordinary, heating) = self.changes.used_cuts(self.below.cheapest());
-        let cuts = ordinary.units * sums.other.kwh + heating.units * sums.heating.kwh;
+        let used = self.changes.used(self.below.cheapest());
+        let rise = used.rise.units * sums.peak.kwh;
+        let cuts = used.ordinary.units * sums.other.kwh + used.heating.units * sums.heating.kwh;
         Ok(Units {
             units: below.units + rise - cuts,
         })

@@ -9,13 +9,11 @@ use Rattle.tiers.specs.Tables.{bands_of}
 use Rattle.sheet.specs.Sums.{total, six_sums}
 use Rattle.sheet.specs.declared.row.Row.{Row}
 use Rattle.sheet.specs.Rows.{kwh_of}
-use Rattle.tiers.specs.Tabled.{table_small}
+use Rattle.tiers.specs.Tabled.{table_whole}
 use Rattle.tariff.specs.Tiered.{limit, share, split_from, split}
 use Rattle.tariff.specs.declared.band.Band.{Band}
 use Rattle.tariff.specs.declared.band.Share.{Share}
-use Rattle.tiers.specs.Climbing.{Climbs, table_climbs, table_prices}
-use Rattle.tiers.specs.Climbing.{limit_is}
-use Rattle.tiers.specs.Tabled.{table_whole}
+use Rattle.tiers.specs.Climbing.{Climbs, table_climbs, limit_is}
 use Rattle.tiers.proofs.Testing.{no_band}
 
 -- what the six sums of a sheet keep to

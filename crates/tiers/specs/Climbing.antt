@@ -1,7 +1,6 @@
 -- What a lawful tier table keeps to: prices and limits that never fall. Proofs, which stand here since laws cite them.
-use Rattle.std.specs.Prelude.{◌≡◌, ℕ, ◌+◌, ◌-◌, ◌*◌, ◌≤◌, Bool, true, false, cond, List, [], ◌∷◌, length, nat_le}
+use Rattle.std.specs.Prelude.{◌≡◌, ℕ, ◌+◌, ◌-◌, ◌*◌, ◌≤◌, Bool, true, false, cond, List, [], ◌∷◌}
 use Rattle.std.proofs.Common.{arith, add-mul, mul_comm, ap}
-use Rattle.std.proofs.lemmas.Bool.{and_parts}
 use Rattle.std.proofs.lemmas.Bool.Decides.{nat_tests}
 use Rattle.sheet.specs.Sums.{sum_from, counted_months, multi_months, six_sums}
 use Rattle.sheet.specs.declared.row.Row.{Row}
@@ -10,7 +9,7 @@ use Rattle.sheet.proofs.Adding.{multi_among_counted}
 use Rattle.tariff.specs.Tiered.{row_standard, limit, first_price}
 use Rattle.tariff.specs.declared.band.Band.{Band}
 use Rattle.tariff.specs.SameCharge.{limit_by_months}
-use Rattle.tariff.specs.Table.{may_follow, rises, lowest, lawful_table}
+use Rattle.tariff.specs.Table.{rises, lowest, lawful_table}
 
 -- one tier of a rising table
 pub record Step (a b : Band) (bs : List Band) (last : ℕ) : Type 0 where
@@ -24,20 +23,12 @@ pub record Step (a b : Band) (bs : List Band) (last : ℕ) : Type 0 where
 
 pub step : (a b : Band) (bs : List Band) (last : ℕ) → rises a (b ∷ bs) last ≡ true → Step a b bs last
 unfolding rises
-step a b bs last h = record {
-  priced = grind (arith, nat_tests);
-  ordinary = grind (arith, nat_tests);
-  multi = grind (arith, nat_tests);
-  dearer = grind (arith, nat_tests);
-  further = grind (arith, nat_tests);
-  wider = grind (arith, nat_tests);
-  rest = (and_parts (may_follow a b) (rises b bs last) h).1;
-}
+step a b bs last h = grind (arith, nat_tests)
 
 -- no price is above the last, and that is at most 20,000
 pub last_dearest : (a : Band) (bs : List Band) (last : ℕ) → rises a bs last ≡ true → (a.price.units ≤ last) × (last ≤ 20000)
 unfolding rises
-last_dearest a [] last h = (grind (arith, nat_tests), grind (arith, nat_tests))
+last_dearest a [] last h = grind (arith, nat_tests)
 last_dearest a (b ∷ bs) last h =
     let s = step a b bs last h in
     let r = last_dearest b bs last s.rest in
@@ -74,7 +65,7 @@ climbs_from rows before a (b ∷ bs) last h le =
 
 -- of a whole table
 pub table_rises : (bs : List Band) (last : ℕ) → lawful_table bs last ≡ true → rises lowest bs last ≡ true
-table_rises bs last h = (and_parts (nat_le (length bs) 5) (rises lowest bs last) h).1
+table_rises bs last h = grind (arith, nat_tests)
 
 pub table_climbs : (rows : List Row) (bs : List Band) (last : ℕ) → lawful_table bs last ≡ true → Climbs rows 0 bs
 table_climbs rows bs last h = climbs_from rows 0 lowest bs last (table_rises bs last h) (omega arith)

@@ -5,7 +5,7 @@ ghost use Rattle.tariff.specs.Tiered as means;
 ghost use Rattle.tiers.specs.Tables.{bands_of};
 ghost use Rattle.tiers.specs.Splits.{shares_of};
 
-use crate::shares::Split;
+use crate::shares::{SHARES, Split};
 use crate::table::Tiers;
 use sheet::quantity::{Kwh, Units};
 use sheet::sheet::Sheet;
@@ -40,12 +40,12 @@ fn share(price: Units, limit: Option<Kwh>, kwh: u64) -> Share
 
 impl Split {
     // No shares yet: those in the array are not in use.
-    fn none() -> Split
+    fn empty() -> Split
         ensures shares { shares_of result ≡ [] }
         ensures count { result.count ≡ 0 }
     {
         Split {
-            shares: [share(Units { units: 0 }, None, 0); 6],
+            shares: [share(Units { units: 0 }, None, 0); SHARES],
             count: 0,
         }
     }
@@ -85,7 +85,7 @@ impl Tiers {
     {
         let sums = sheet.six_sums();
         let total = sums.total.kwh;
-        let mut split = Split::none();
+        let mut split = Split::empty();
         let mut before = 0;
         for band in self.bands() {
             let reach = limit(band, &sums);

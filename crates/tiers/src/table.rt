@@ -5,11 +5,14 @@ ghost use Rattle.tariff.specs.Table.{lawful_table};
 use sheet::quantity::Units;
 use tariff::band::Band;
 
+/// The most tiers that have standards.
+pub(crate) const BANDS: usize = 5;
+
 /// One to six tiers: up to five with standards, of which the first `count` are in use, and the price of the last.
 #[derive(Clone, Copy)]
 pub struct Tiers {
-    // An array and a count: a heap could run out, which no rule knows as a refusal, and an `ArrayVec` is not `Copy`.
-    pub(crate) bands: [Band; 5],
+    // An array and a count: a heap can fail, which no rule knows; `ArrayVec`, or a model that forgets the rest, is not `Copy`.
+    pub(crate) bands: [Band; BANDS],
     pub(crate) count: usize,
     pub(crate) last: Units,
     ghost five: { length bands ≡ 5 },

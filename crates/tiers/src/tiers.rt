@@ -7,13 +7,16 @@ ghost use Rattle.tariff.specs.Plain.{tiers};
 ghost use Rattle.tariff.specs.SameCharge.{tiers_alike};
 ghost use Rattle.tiers.specs.Tabled.{table_lawful};
 
-use crate::table::Tiers;
+use crate::table::{BANDS, Tiers};
 use sheet::quantity::{Kwh, Units};
 use sheet::sheet::Sheet;
 use tariff::band::Band;
 use tariff::flat::is_price;
 use tariff::refusal::TariffFault;
 use tariff::tariff::Tariff;
+
+// The most that a standard may be, a month.
+const STANDARD_LIMIT: Kwh = Kwh { kwh: 10_000 };
 
 // No tier that is in range falls below this one.
 const LOWEST: Band = Band {
@@ -27,7 +30,7 @@ fn in_range(band: &Band) -> bool
 {
     is_price(band.price)
         && (1..=band.multi.kwh).contains(&band.ordinary.kwh)
-        && band.multi.kwh <= 10_000
+        && band.multi <= STANDARD_LIMIT
 }
 
 fn not_below(before: &Band, band: &Band) -> bool
@@ -49,11 +52,12 @@ fn may_end(before: &Band, last: Units) -> bool
 }
 
 /// Whether tiers but the last, and the price of the last, keep the rules of a tier table.
+// Two parameters: together they are a `Tiers`, which exists only where this holds.
 #[tactic(auto, using(crate::proofs::Testing::tests))]
 pub fn is_lawful(bands: &[Band], last: Units) -> bool
     ensures { result ≡ rules.lawful_table bands.now last.units }
 {
-    if bands.len() > 5 {
+    if bands.len() > BANDS {
         return false;
     }
     let mut before = LOWEST;
@@ -66,12 +70,12 @@ pub fn is_lawful(bands: &[Band], last: Units) -> bool
     may_end(&before, last)
 }
 
-fn copied(bands: &[Band]) -> [Band; 5]
+fn copied(bands: &[Band]) -> [Band; BANDS]
     requires { length bands.now ≤ 5 }
     ensures same { take (length bands.now) result ≡ bands.now }
     ensures five { length result ≡ 5 }
 {
-    let mut all = [LOWEST; 5];
+    let mut all = [LOWEST; BANDS];
     all[..bands.len()].copy_from_slice(bands);
     all
 }

@@ -8,8 +8,8 @@ use Rattle.tiers.proofs.table.Tiers.split.Goals as goal
 
 pub loop-band-init : goal.loop-band-init
 loop-band-init c = record {
-  splits = none_split c.args.self.now c.args.sheet.now.rows _ _ c.bands-band-items.ensures c.none-split.ensures.shares;
-  count = c.none-split.ensures.count;
+  splits = none_split c.args.self.now c.args.sheet.now.rows _ _ c.bands-band-items.ensures c.empty-split.ensures.shares;
+  count = c.empty-split.ensures.count;
 }
 
 pub loop-band-preserved : goal.loop-band-preserved
