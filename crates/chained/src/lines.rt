@@ -80,7 +80,7 @@ impl<'a> Ledger for ChainedLedger<'a> {
         Self::GREATEST
     }
 
-    // Four methods passed on in each ledger: a trait that provides them cannot have the size of `Balances` as a constant.
+    // Passed on in both ledgers: a trait to provide these four would need another for `Balances<N>`, with the same four in it.
     fn free(&self) -> u64 {
         self.balances.free()
     }
