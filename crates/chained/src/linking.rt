@@ -21,7 +21,7 @@ impl Links {
     /// No records yet.
     pub fn new() -> Links
         ensures used { result.used ≡ 0 }
-        ensures heads { result.heads ≡ replicate 200 0 }
+        ensures heads { result.heads ≡ replicate NUMBERS 0 }
     {
         Links {
             used: 0,

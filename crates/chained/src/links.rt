@@ -1,5 +1,6 @@
 //! How the records of account numbers are chained through a table.
 ghost use Rattle.std.specs.Prelude.{◌≡◌, length};
+ghost use Rattle.chained.specs.declared.links.TheConstants.{NUMBERS};
 
 /// The greatest account number that has a chain.
 pub(crate) const NUMBERS: usize = 200;
@@ -11,5 +12,5 @@ pub(crate) const NUMBERS: usize = 200;
 pub struct Links {
     pub(crate) used: usize,
     pub(crate) heads: [u16; NUMBERS],
-    ghost sized: { length heads ≡ 200 },
+    ghost sized: { length heads ≡ NUMBERS },
 }
