@@ -50,8 +50,8 @@ places_each number n P none mine other (suc b) =
 walked : (number next : ℕ → ℕ) (used : ℕ) → Nexts number next used → (n b : ℕ) → b ≤ used → Walk next (newest (places number n b)) (places number n b)
 walked number next used nexts n =
     places_each number n (λ b js. b ≤ used → Walk next (newest js) js) (λ l. ended) (λ b mine again l.
-        let on : next b ≡ newest (places number n b) = nexts b (omega arith) ∙ ap (λ k. newest (places number k b)) mine in
-        met (subst (λ i. Walk next i (places number n b)) (sym on) (again (omega arith)))) (λ b again l. again (omega arith))
+    let on : next b ≡ newest (places number n b) = nexts b (omega arith) ∙ ap (λ k. newest (places number k b)) mine in
+    met (subst (λ i. Walk next i (places number n b)) (sym on) (again (omega arith)))) (λ b again l. again (omega arith))
 
 -- all of them are n's
 places_own : (number : ℕ → ℕ) (n b : ℕ) → AllByRecursion (λ j. number j ≡ n) (places number n b)

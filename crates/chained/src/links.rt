@@ -10,6 +10,7 @@ pub(crate) const NUMBERS: usize = 200;
 // Plain indices, 0 for none, as in a cell: what a head says is written as the next index of a record.
 #[derive(Drop)]
 pub struct Links {
+    // Where the next record goes, beside the lent table: the length of a slice counts its unused cells too.
     pub(crate) used: usize,
     pub(crate) heads: [u16; NUMBERS],
     ghost sized: { length heads ≡ NUMBERS },

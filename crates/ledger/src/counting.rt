@@ -1,5 +1,6 @@
 //! A ledger of counts and sums alone.
 ghost use Rattle.std.specs.Prelude.{◌≡◌, min};
+ghost use Rattle.ledger.specs.declared.counting.TheConstants.{NUMBERS};
 ghost use Rattle.ledger.specs.Book as means;
 ghost use Rattle.ledger.specs.Held.{counting_book};
 ghost use Rattle.ledger.specs.Lawful.{lawful_book};
@@ -33,7 +34,7 @@ impl CountingLedger {
 impl Ledger for CountingLedger {
     const GREATEST: u64 = NUMBERS as u64;
 
-    ghost top = { 64 };
+    ghost top = { NUMBERS };
 
     ghost book = { counting_book };
 
