@@ -1,5 +1,5 @@
 -- The chains stay linked with one record more, and each is whole. Assumes nothing.
-use Rattle.std.proofs.Common.{◌≡◌, ℕ, zero, suc, ◌+◌, ◌-◌, ◌<◌, ◌≤◌, ◌⊎◌, List, [], ◌∷◌, length, set, ℤ, sym, ap, ◌∙◌, subst, inl, inr, add-one, arith}
+use Rattle.std.proofs.Common.{◌≡◌, ℕ, zero, suc, ◌+◌, ◌-◌, ◌<◌, ◌≤◌, List, [], ◌∷◌, length, set, ℤ, sym, ap, ◌∙◌, subst, inl, inr, add-one, arith}
 use Rattle.std.proofs.Math.Path.{fun_ext}
 use Rattle.std.specs.List.{AllByRecursion}
 use Rattle.std.proofs.lemmas.Bool.{cases_eq, cases_lt, eq-eqb, ne_eqb}
@@ -38,34 +38,24 @@ module _ {R : Type 0} (t : List (Cell R)) (used : ℕ) (c : Cell R) (space : use
             cc)
       ]
 
--- one place more is n's, or it is not
-places_suc : (number : ℕ → ℕ) (n b : ℕ) → ((number b ≡ n) × (places number n (suc b) ≡ b ∷ places number n b)) ⊎ (places number n (suc b) ≡ places number n b)
+-- by the records one after the other: each is n's, or it is not
+places_each : (number : ℕ → ℕ) (n : ℕ) (P : ℕ → List ℕ → Type 0) → P 0 [] → ((b : ℕ) → number b ≡ n → P b (places number n b) → P (suc b) (b ∷ places number n b)) → ((b : ℕ) → P b (places number n b) → P (suc b) (places number n b)) → (b : ℕ) → P b (places number n b)
 unfolding places
-places_suc number n b = elim (cases_eq (number b) n) [ inl y ↦ inl (y, rw (eq-eqb (number b) n y)) | inr other ↦ inr (rw (ne_eqb (number b) n other)) ]
+places_each number n P none mine other zero = none
+places_each number n P none mine other (suc b) =
+    let again = places_each number n P none mine other b in
+    elim (cases_eq (number b) n) [ inl y ↦ rw (eq-eqb (number b) n y) (mine b y again) | inr o ↦ rw (ne_eqb (number b) n o) (other b again) ]
 
 -- from the newest of n's records among the first b, the walk meets exactly those
-pub walked : (number next : ℕ → ℕ) (used : ℕ) → Nexts number next used → (n b : ℕ) → b ≤ used → Walk next (newest (places number n b)) (places number n b)
-unfolding places
-walked number next used nexts n zero l = ended
-walked number next used nexts n (suc b) l =
-    let again = walked number next used nexts n b (omega arith) in
-    elim (places_suc number n b) [
-      | inl mine ↦
-          (let on : next b ≡ newest (places number n b) = nexts b (omega arith) ∙ ap (λ k. newest (places number k b)) mine.0 in
-          subst (λ js. Walk next (newest js) js) (sym mine.1) (met (subst (λ i. Walk next i (places number n b)) (sym on) again)))
-      | inr other ↦ subst (λ js. Walk next (newest js) js) (sym other) again
-    ]
+walked : (number next : ℕ → ℕ) (used : ℕ) → Nexts number next used → (n b : ℕ) → b ≤ used → Walk next (newest (places number n b)) (places number n b)
+walked number next used nexts n =
+    places_each number n (λ b js. b ≤ used → Walk next (newest js) js) (λ l. ended) (λ b mine again l.
+    let on : next b ≡ newest (places number n b) = nexts b (omega arith) ∙ ap (λ k. newest (places number k b)) mine in
+    met (subst (λ i. Walk next i (places number n b)) (sym on) (again (omega arith)))) (λ b again l. again (omega arith))
 
 -- all of them are n's
 places_own : (number : ℕ → ℕ) (n b : ℕ) → AllByRecursion (λ j. number j ≡ n) (places number n b)
-unfolding places
-places_own number n zero = tt
-places_own number n (suc b) =
-    let again = places_own number n b in
-    elim (places_suc number n b) [
-      | inl mine ↦ subst (AllByRecursion (λ j. number j ≡ n)) (sym mine.1) (mine.0, again)
-      | inr other ↦ subst (AllByRecursion (λ j. number j ≡ n)) (sym other) again
-    ]
+places_own number n = places_each number n (λ b js. AllByRecursion (λ j. number j ≡ n) js) tt (λ b mine again. (mine, again)) (λ b again. again)
 
 -- newest first
 falling_up : (js : List ℕ) (a b : ℕ) → a ≤ b → Falling a js → Falling b js
@@ -73,14 +63,7 @@ falling_up [] a b l f = tt
 falling_up (j ∷ js) a b l f = let h = f.0 in (omega arith, f.1)
 
 places_fall : (number : ℕ → ℕ) (n b : ℕ) → Falling b (places number n b)
-unfolding places
-places_fall number n zero = tt
-places_fall number n (suc b) =
-    let again = places_fall number n b in
-    elim (places_suc number n b) [
-      | inl mine ↦ subst (Falling (suc b)) (sym mine.1) (omega arith, again)
-      | inr other ↦ subst (Falling (suc b)) (sym other) (falling_up (places number n b) b (suc b) (omega arith) again)
-    ]
+places_fall number n = places_each number n Falling tt (λ b mine again. (omega arith, again)) (λ b again. falling_up (places number n b) b (suc b) (omega arith) again)
 
 pub chain_from : {R : Type 0} (amount : R → ℤ) (count : ℕ → ℕ) (sum : ℕ → ℤ) (t : List (Cell R)) (used n index : ℕ) → Nexts (number_at t) (next_at t) used → index ≡ newest_of t used n → Counts count t used → Sums amount sum t used → ChainOf amount t used n index (count n) (sum n)
 chain_from amount count sum t used n index nexts h counts sums = record {

@@ -11,6 +11,7 @@ use ledger::posting::Posting;
 use ledger::refusal::LedgerFault;
 
 /// Enrols a number in a new ledger over a table, and posts two lines or none.
+// Two parameters, as in `check_both`.
 pub fn open_with_both(
     table: &mut [Line],
     number: u64,

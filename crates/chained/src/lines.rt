@@ -4,6 +4,7 @@ ghost use Rattle.ledger.specs.Book as means;
 ghost use Rattle.ledger.specs.Lawful.{lawful_book};
 ghost use Rattle.ledger.specs.Postings.{Step, Recorded};
 ghost use Rattle.chained.specs.declared.chained.ChainedLedger.{ChainedLedger};
+ghost use Rattle.chained.specs.declared.links.TheConstants.{NUMBERS};
 ghost use Rattle.chained.specs.Chain as chain;
 ghost use Rattle.chained.specs.Lines as lines;
 ghost use Rattle.chained.specs.Linked as link;
@@ -25,7 +26,7 @@ impl<'a> ChainedLedger<'a> {
     pub fn new(table: &'a mut [Line]) -> ChainedLedger<'a>
         ensures book { lines.chained_book result ≡ means.blank (link.room (length table.old)) }
         ensures used { result.links.used ≡ 0 }
-        ensures heads { result.links.heads ≡ replicate 200 0 }
+        ensures heads { result.links.heads ≡ replicate NUMBERS 0 }
         ensures table { result.table.now ≡ table.old }
         ensures lent { result.table.ghost_name ≡ table.entry.ghost_name }
         ensures lender { (m : ChainedLedger) (steps : List Step) → Recorded lines.Wrote lines.Kept result steps m → (m.table.now ≡ lines.filled table.old 0 steps) × (m.table.ghost_name ≡ table.entry.ghost_name) }
@@ -42,7 +43,7 @@ impl<'a> ChainedLedger<'a> {
     /// lines, newest first, as many as its count, and they come to its sum.
     // No `Option`: a walk begins with this index and ends at 0, as a line's next does.
     pub fn newest(&self, number: u64) -> Result<u16, LedgerFault>
-        ensures answer { result ≡ means.answer_about 200 (lines.chained_book self.now) number (chain.newest_of self.now.table.now self.now.links.used number) }
+        ensures answer { result ≡ means.answer_about NUMBERS (lines.chained_book self.now) number (chain.newest_of self.now.table.now self.now.links.used number) }
         ensures chain { IfOk result (λ i. chain.ChainOf lines.fen_of self.now.table.now self.now.links.used number i ((lines.chained_book self.now).count number) ((lines.chained_book self.now).sum number)) }
     {
         self.count(number)?;
@@ -60,7 +61,7 @@ impl<'a> ChainedLedger<'a> {
 impl<'a> Ledger for ChainedLedger<'a> {
     const GREATEST: u64 = NUMBERS as u64;
 
-    ghost top = { 200 };
+    ghost top = { NUMBERS };
 
     ghost book = { lines.chained_book };
 
@@ -80,7 +81,7 @@ impl<'a> Ledger for ChainedLedger<'a> {
         Self::GREATEST
     }
 
-    // Four methods passed on in each ledger: a trait that provides them cannot have the size of `Balances` as a constant.
+    // Passed on in both ledgers: a trait to provide these four would need another for `Balances<N>`, with the same four in it.
     fn free(&self) -> u64 {
         self.balances.free()
     }

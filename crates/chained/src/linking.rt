@@ -1,11 +1,11 @@
 //! Records of any kind put into chains, and found again.
 ghost use Rattle.std.specs.Prelude.{◌≡◌, replicate, MatchBool};
-ghost use Rattle.ledger.specs.Book.{within};
 ghost use Rattle.chained.specs.Chain as chain;
 ghost use Rattle.chained.specs.Linked as link;
 
 use crate::cell::Cell;
 use crate::links::{Links, NUMBERS};
+use ledger::numbers::place;
 
 /// The greatest index of a record.
 const GREATEST_INDEX: usize = u16::MAX as usize;
@@ -17,18 +17,11 @@ pub fn room(cells: usize) -> usize
     cells.min(GREATEST_INDEX)
 }
 
-/// Whether a number has a chain.
-fn has_chain(number: u64) -> bool
-    ensures { result ≡ within 200 number }
-{
-    (1..=NUMBERS as u64).contains(&number)
-}
-
 impl Links {
     /// No records yet.
     pub fn new() -> Links
         ensures used { result.used ≡ 0 }
-        ensures heads { result.heads ≡ replicate 200 0 }
+        ensures heads { result.heads ≡ replicate NUMBERS 0 }
     {
         Links {
             used: 0,
@@ -41,10 +34,11 @@ impl Links {
     pub fn next_cell<R: Copy>(&self, number: u64, item: R, cells: usize) -> Option<(usize, Cell<R>)>
         ensures { result ≡ link.next_cell self.now number item cells }
     {
-        if !has_chain(number) || self.used >= room(cells) {
+        let i = place(number, NUMBERS)?;
+        if self.used >= room(cells) {
             return None;
         }
-        let next = self.newest(number);
+        let next = self.heads[i];
         Some((self.used, Cell { number, next, item }))
     }
 
@@ -53,11 +47,14 @@ impl Links {
     pub fn link(&mut self, number: u64)
         ensures { MatchBool (link.may_link self.old number) (link.Linked number self.old self.new) (self.new ≡ self.old) }
     {
-        if !has_chain(number) || self.used >= GREATEST_INDEX {
+        let Some(i) = place(number, NUMBERS) else {
+            return;
+        };
+        if self.used >= GREATEST_INDEX {
             return;
         }
         self.used += 1;
-        self.heads[number as usize - 1] = self.used as u16;
+        self.heads[i] = self.used as u16;
     }
 
     /// The index of a number's newest record; 0 where it has none.
@@ -65,11 +62,7 @@ impl Links {
     pub fn newest(&self, number: u64) -> u16
         ensures { result ≡ chain.head self.now.heads number }
     {
-        number
-            .checked_sub(1)
-            .and_then(|i| self.heads.get(i as usize))
-            .copied()
-            .unwrap_or(0)
+        place(number, NUMBERS).map_or(0, |i| self.heads[i])
     }
 
     /// The cell of a table at an index, counted from 1; none where no record has that index.

@@ -1,5 +1,6 @@
 //! How the records of account numbers are chained through a table.
 ghost use Rattle.std.specs.Prelude.{◌≡◌, length};
+ghost use Rattle.chained.specs.declared.links.TheConstants.{NUMBERS};
 
 /// The greatest account number that has a chain.
 pub(crate) const NUMBERS: usize = 200;
@@ -9,7 +10,8 @@ pub(crate) const NUMBERS: usize = 200;
 // Plain indices, 0 for none, as in a cell: what a head says is written as the next index of a record.
 #[derive(Drop)]
 pub struct Links {
+    // Where the next record goes, beside the lent table: the length of a slice counts its unused cells too.
     pub(crate) used: usize,
     pub(crate) heads: [u16; NUMBERS],
-    ghost sized: { length heads ≡ 200 },
+    ghost sized: { length heads ≡ NUMBERS },
 }

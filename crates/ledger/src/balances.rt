@@ -7,7 +7,7 @@ use crate::balance::Balance;
 
 /// The balance of each enrolled number, and the free lines: at most 100,000 lines in all, and no sum beyond its count
 /// times 10,000,000,000,000 fen.
-// Clauses say `book_of`, and no `impl Model`: a model's value needs a code, and a book has functions, which have none.
+// Clauses say `book_of`: a model's value cannot hold functions, as a book does, so clauses would still name the book by one.
 #[derive(Drop)]
 pub struct Balances<const N: usize> {
     pub(crate) rows: [Option<Balance>; N],

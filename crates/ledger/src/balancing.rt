@@ -6,6 +6,7 @@ ghost use Rattle.ledger.specs.Rows as rowed;
 
 use crate::balance::Balance;
 use crate::balances::Balances;
+use crate::numbers::place;
 use crate::posting::Posting;
 use crate::refusal::LedgerFault;
 use sheet::quantity::Fen;
@@ -75,7 +76,8 @@ impl<const N: usize> Balances<N> {
     pub fn check_enrol(&self, number: u64) -> Result<(), LedgerFault>
         ensures { result ≡ means.enrol_answer N (book_of self.now) number }
     {
-        if place(number, N).is_none() || self.enrolled(number) {
+        place(number, N).ok_or(LedgerFault::Number)?;
+        if self.enrolled(number) {
             return Err(LedgerFault::Number);
         }
         Ok(())
@@ -86,7 +88,8 @@ impl<const N: usize> Balances<N> {
         requires { means.enrol_answer N (book_of self.old) number ≡ Ok tt }
         ensures { book_of self.new ≡ means.with_number (book_of self.old) number }
     {
-        self.rows[number as usize - 1] = Some(Balance {
+        let i = place(number, N).unwrap();
+        self.rows[i] = Some(Balance {
             count: 0,
             sum: Fen { fen: 0 },
         });
@@ -124,7 +127,8 @@ impl<const N: usize> Balances<N> {
     {
         let old = self.balance(posting.number).unwrap();
         let new = old.grown(posting.entry.fen);
-        self.rows[posting.number as usize - 1] = Some(new);
+        let i = place(posting.number, N).unwrap();
+        self.rows[i] = Some(new);
         self.free -= 1;
     }
 
@@ -161,12 +165,4 @@ pub fn payable(posting: Posting) -> bool
     ensures { result ≡ means.payable posting }
 {
     posting.entry.fen.fen.unsigned_abs() <= AMOUNT_LIMIT
-}
-
-/// The place of a number's row among `n`.
-fn place(number: u64, n: usize) -> Option<usize>
-    ensures { result ≡ rowed.place number n }
-{
-    let i = number.checked_sub(1)?;
-    (i < n as u64).then_some(i as usize)
 }

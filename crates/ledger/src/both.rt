@@ -9,7 +9,7 @@ use crate::posting::Posting;
 use crate::refusal::LedgerFault;
 
 /// Whether two lines can be posted, one after the other.
-// Two parameters and no array: each use would index it, as `pair[0].number`, and each caller build it.
+// Two parameters and no array, of which each clause would have to say which place it means.
 pub fn check_both<L: Ledger>(ledger: &L, first: Posting, second: Posting) -> Result<(), LedgerFault>
     ensures { result ≡ postings.both_answer L.Ledger.top (L.Ledger.book ledger.now) first second }
 {
@@ -25,6 +25,7 @@ pub fn check_both<L: Ledger>(ledger: &L, first: Posting, second: Posting) -> Res
 }
 
 /// Posts two lines, or none.
+// Two parameters, as in `check_both`.
 pub fn post_both<L: Ledger>(
     ledger: &mut L,
     first: Posting,

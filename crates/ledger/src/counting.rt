@@ -1,5 +1,6 @@
 //! A ledger of counts and sums alone.
 ghost use Rattle.std.specs.Prelude.{◌≡◌, min};
+ghost use Rattle.ledger.specs.declared.counting.TheConstants.{NUMBERS};
 ghost use Rattle.ledger.specs.Book as means;
 ghost use Rattle.ledger.specs.Held.{counting_book};
 ghost use Rattle.ledger.specs.Lawful.{lawful_book};
@@ -33,7 +34,7 @@ impl CountingLedger {
 impl Ledger for CountingLedger {
     const GREATEST: u64 = NUMBERS as u64;
 
-    ghost top = { 64 };
+    ghost top = { NUMBERS };
 
     ghost book = { counting_book };
 
@@ -54,7 +55,7 @@ impl Ledger for CountingLedger {
         Self::GREATEST
     }
 
-    // Four methods passed on in each ledger: a trait that provides them cannot have the size of `Balances` as a constant.
+    // Passed on in both ledgers: a trait to provide these four would need another for `Balances<N>`, with the same four in it.
     fn free(&self) -> u64 {
         self.balances.free()
     }

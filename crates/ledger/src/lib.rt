@@ -8,5 +8,6 @@ pub mod balancing;
 pub mod both;
 pub mod counting;
 pub mod ledger;
+pub mod numbers;
 pub mod posting;
 pub mod refusal;
