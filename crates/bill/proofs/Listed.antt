@@ -1,10 +1,10 @@
 -- The lines of a bill by their place.
-use Rattle.std.proofs.Common.{◌≡◌, ℕ, zero, suc, ◌+◌, ◌-◌, ◌<◌, ◌≤◌, List, [], ◌∷◌, ◌++◌, length, get_or, take, drop, MatchOption, Some, None, Option, IfSome, is_some, nat_eq, ◌≢◌, sym, refl, ap, ◌∙◌, ap₂, append_assoc, append-nil, arith, rules}
+use Rattle.std.proofs.Common.{◌≡◌, ℕ, zero, suc, ◌+◌, ◌-◌, ◌<◌, ◌≤◌, List, [], ◌∷◌, ◌++◌, length, get_or, take, drop, MatchOption, Some, None, Option, IfSome, is_some, nat_eq, ◌≢◌, sym, refl, ap, ◌∙◌, ap₂, inl, inr, arith, rules}
 use Rattle.std.specs.Iterator.{YieldsFirst, MakesProgress, item_count}
 use Rattle.std.proofs.lemmas.Bool.{eqb-true, eqb-false}
-use Rattle.std.proofs.lemmas.List.{at_drop_all, drop_more}
+use Rattle.std.proofs.lemmas.List.{at_drop_all, drop_more, flat_map_more}
 use Rattle.std.proofs.Math.Seq.{take-nil}
-use Rattle.std.proofs.lemmas.Option.{slice_get_read, slice_get_within, get_or_from_slice_get}
+use Rattle.std.proofs.lemmas.Option.{slice_get_read, slice_get_within, slice_get_cases, get_or_from_slice_get}
 use Rattle.std.specs.List.{slice_get, slice_range}
 use Rattle.sheet.specs.Rows.{kwh, kwh_of, numbered}
 use Rattle.sheet.specs.Sums.{total}
@@ -73,21 +73,14 @@ line_end rows k twelve h = sym (numbered_past month_line 1 rows (Total (kwh_of (
 -- ---- a page, line after line
 
 pub page_push : (xs : List Line) (x : Line) → page (xs ++ x ∷ []) ≡ page xs ++ (line x ++ (10 ∷ []))
-unfolding page
-page_push [] x = append-nil _
-page_push (l ∷ ls) x = ap (λ bs. (line l ++ (10 ∷ [])) ++ bs) (page_push ls x) ∙ sym (append_assoc (line l ++ (10 ∷ [])) (page ls) (line x ++ (10 ∷ [])))
+page_push xs x = sym (flat_map_more (λ l. line l ++ (10 ∷ [])) [] xs x)
 
 -- ---- a walk over all lines
-
-slice_get_none : (xs : List Line) (k : ℕ) → slice_get xs k ≡ None → length xs ≤ k
-slice_get_none [] k h = omega arith
-slice_get_none (x ∷ xs) zero h = cc
-slice_get_none (x ∷ xs) (suc k) h = let rest = slice_get_none xs k h in omega arith
 
 pub walked : (all : List Line) (from to next end : ℕ) (o : Option Line) → from < to → next ≡ from + 1 → end ≡ to → o ≡ slice_get all from
     → MatchOption o ((slice_range all from to ≡ []) × (slice_range all next end ≡ [])) (λ x. slice_range all from to ≡ x ∷ slice_range all next end)
 walked all from to next end None h step same at =
-    let past : length all ≤ from = slice_get_none all from (sym at) in
+    let past : length all ≤ from = elim (slice_get_cases all from).1 [ inl w ↦ cc | inr w ↦ w.0 ] in
     (at_drop_all (λ l. take (to - from) l) all from past ∙ take-nil (to - from), at_drop_all (λ l. take (end - next) l) all next (omega arith) ∙ take-nil (end - next))
 walked all from to next end (Some x) h step same at =
     let room : from < length all = slice_get_within all from x (sym at) in

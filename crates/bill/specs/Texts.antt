@@ -1,5 +1,5 @@
 -- How the lines of a bill, and what is wrong with arguments, are printed, as bytes.
-use Rattle.std.specs.Prelude.{ℕ, ◌/◌, ◌%◌, cond, List, [], ◌∷◌, ◌++◌, ℤ, pos, negsuc, Some, None, codes, decimal, Option, unsigned_abs}
+use Rattle.std.specs.Prelude.{ℕ, ◌/◌, ◌%◌, cond, List, [], ◌∷◌, ◌++◌, ℤ, pos, negsuc, Some, None, codes, decimal, Option, unsigned_abs, flat_map}
 use Rattle.sheet.specs.declared.quantity.Kwh.{Kwh as Quantity}
 use Rattle.bill.specs.declared.household.ArgumentFault.{ArgumentFault}
 use Rattle.bill.specs.declared.household.ArgumentFault.TheVariants.{Count, Kwh, Month}
@@ -30,9 +30,8 @@ line (Tier t s) = codes "tier " ++ (decimal t ++ (codes " (" ++ (reach s.limit +
 line (Sum c f) = codes "sum: " ++ (units_as_yuan c.units ++ (codes " yuan, to pay " ++ (fen_as_yuan f.fen ++ codes " yuan")))
 
 -- each line with a newline after it
-unfoldable pub page : List Line → List ℕ
-page [] = []
-page (l ∷ ls) = (line l ++ (10 ∷ [])) ++ page ls
+abbrev pub page : List Line → List ℕ
+page ls = flat_map (λ l. line l ++ (10 ∷ [])) ls
 
 -- what is wrong with arguments, and where
 abbrev pub message : ArgumentFault → List ℕ

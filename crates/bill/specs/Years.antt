@@ -1,5 +1,5 @@
 -- The rows of a household's year.
-use Rattle.std.specs.Prelude.{ℕ, ◌+◌, ◌-◌, List, [], ◌∷◌, Some, None, Option}
+use Rattle.std.specs.Prelude.{ℕ, ◌+◌, ◌-◌, List, [], ◌∷◌, Some, None, Option, option_and_then}
 use Rattle.sheet.specs.Rows.{booked_in, after_month, marked, blank_year}
 use Rattle.sheet.specs.declared.quantity.Kwh.{Kwh}
 use Rattle.sheet.specs.declared.row.Booking.TheVariants.{Purchase}
@@ -16,14 +16,10 @@ abbrev pub marked_year : (from : Option ℕ) → List Row
 marked_year (Some m) = after_month (m - 1) (marked MultiPerson) ordinary_year
 marked_year None = ordinary_year
 
-abbrev pub and_then : {X Y : Type 0} → Option X → (X → Option Y) → Option Y
-and_then (Some x) f = f x
-and_then None f = None
-
 -- kWh bought in one month after the other, from a month on; none where a row would pass its limit
 unfoldable pub bought_from : (month : ℕ) → List Kwh → List Row → Option (List Row)
 bought_from m [] rows = Some rows
-bought_from m (k ∷ ks) rows = and_then (booked_in m (Purchase k) rows) (bought_from (m + 1) ks)
+bought_from m (k ∷ ks) rows = option_and_then (bought_from (m + 1) ks) (booked_in m (Purchase k) rows)
 
 abbrev pub rows_of : Household → Option (List Row)
 rows_of h = bought_from 1 h.kwh (marked_year h.multi_from)

@@ -6,7 +6,7 @@ use crate::household::{ArgumentFault, Household};
 use sheet::quantity::Kwh;
 
 /// The whole number that an argument writes, if it lies within these limits.
-// Two numbers: a `RangeInclusive` that has been iterated no longer contains its end.
+// Two numbers, as callers know them: a `Range` ends one past the limit, and a `RangeInclusive` that was used has lost its end.
 pub fn number(argument: &str, least: u64, most: u64) -> Option<u64>
     ensures { Read least most argument.now result }
 {
@@ -30,6 +30,7 @@ fn months(year: &[String; 12]) -> Result<[Kwh; 12], ArgumentFault>
 }
 
 /// The household's year that the arguments give: the kWh of twelve months, and perhaps the month from which it is multi-person.
+#[tactic(auto, using(crate::proofs::Argued::passed_on))]
 pub fn household(arguments: &[String]) -> Result<Household, ArgumentFault>
     ensures { Parsed (map string_bytes arguments.now) result }
 {

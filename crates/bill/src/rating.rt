@@ -2,9 +2,8 @@
 ghost use Rattle.std.specs.Prelude.{◌≡◌, ◌≤◌, length, option_map, slice_get};
 ghost use Rattle.sheet.specs.Rows.{kwh, kwh_of, row_limit};
 ghost use Rattle.tariff.specs.Faults.{units_of};
-ghost use Rattle.tiers.specs.Splits.{shares_of};
 ghost use Rattle.bill.specs.Lines.{lines, end_lines, sum_line};
-ghost use Rattle.bill.specs.Shandong.{shares, cost};
+ghost use Rattle.bill.specs.Shandong.{cost};
 ghost use Rattle.bill.specs.Years.{marked_year, rows_of};
 
 use crate::bill::Bill;
@@ -16,7 +15,6 @@ use sheet::rows::{blank_year, booked_in, marked_after};
 use sheet::sheet::Sheet;
 use tariff::tariff::Tariff;
 use tiers::published::shandong;
-use tiers::shares::Split;
 
 fn marked_year(multi_from: Option<u64>) -> YearRows
     ensures { result ≡ marked_year multi_from }
@@ -62,7 +60,8 @@ impl Bill {
     {
         let rows = household.rows()?;
         let sheet = Sheet::new(rows)?;
-        Some(Bill { sheet })
+        let split = shandong().split(&sheet);
+        Some(Bill { sheet, split })
     }
 
     /// What the year costs.
@@ -73,19 +72,13 @@ impl Bill {
         shandong().charge(&self.sheet).unwrap()
     }
 
-    fn split(&self) -> Split
-        ensures { shares_of result ≡ shares self.now.sheet.rows }
-    {
-        shandong().split(&self.sheet)
-    }
-
     /// How many lines it has.
     #[tactic(auto, using(crate::proofs::Listed::length_numbered))]
     pub fn len(&self) -> usize
         ensures { result ≡ length (lines self.now.sheet.rows) }
     {
         // The months, the year, the tiers, the sum.
-        12 + 1 + self.split().shares().len() + 1
+        12 + 1 + self.split.shares().len() + 1
     }
 
     /// Its lines: each month, the year's kWh, each tier, the sum. None past the last.
@@ -111,18 +104,17 @@ impl Bill {
     fn tier_line(&self, k: usize) -> Option<Line>
         ensures { result ≡ slice_get (end_lines self.now.sheet.rows) k }
     {
-        let split = self.split();
-        let shares = split.shares();
+        let shares = self.split.shares();
         if let Some(share) = shares.get(k) {
             return Some(Line::Tier {
                 tier: k as u64 + 1,
                 share: *share,
             });
         }
-        (k == shares.len()).then(|| self.sum())
+        (k == shares.len()).then(|| self.sum_line())
     }
 
-    fn sum(&self) -> Line
+    fn sum_line(&self) -> Line
         ensures { result ≡ sum_line self.now.sheet.rows }
     {
         let charge = self.charge();

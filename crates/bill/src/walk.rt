@@ -9,6 +9,7 @@ use crate::lines::Line;
 use std::ops::Range;
 
 /// The lines of a bill that are still to come.
+// By places: what is left of the four kinds would be four fields, the months' with the rows' limit as its invariant.
 #[derive(Drop)]
 pub struct Lines<'a> {
     bill: &'a Bill,

@@ -1,12 +1,10 @@
 use Rattle.std.proofs.Common.{[], ◌∷◌, ◌++◌, sym, refl, ap, ◌∙◌, append_assoc}
 use Rattle.std.proofs.Output.{writes_in_calls_nil, has_written_append, has_written_of_eq}
-use Rattle.bill.specs.Texts.{page}
 use Rattle.bill.specs.Walks.{to_come}
 use Rattle.bill.proofs.Listed.{page_push}
 use Rattle.bill.proofs.texts.BillDisplay.fmt.Goals as goal
 
 pub loop-line-init : goal.loop-line-init
-unfolding page
 loop-line-init g c = record {
   can_next = tt;
   is_finite = tt;
