@@ -4,6 +4,7 @@ ghost use Rattle.bill.specs.Arguments.{Read, Months, Fault, Parsed};
 
 use crate::household::{ArgumentFault, Household};
 use sheet::quantity::Kwh;
+use sheet::rows::ROW_LIMIT;
 
 /// The whole number that an argument writes, if it lies within these limits.
 // Two numbers, as callers know them: a `Range` ends one past the limit, and a `RangeInclusive` that was used has lost its end.
@@ -23,7 +24,7 @@ fn months(year: &[String; 12]) -> Result<[Kwh; 12], ArgumentFault>
     // No `try_map`: of its error no clause says that the months before it could be read.
     let mut kwh = [Kwh { kwh: 0 }; 12];
     for (i, argument) in year.iter().enumerate() {
-        let n = number(argument, 0, 999_999).ok_or(ArgumentFault::Kwh { month: i + 1 })?;
+        let n = number(argument, 0, ROW_LIMIT).ok_or(ArgumentFault::Kwh { month: i + 1 })?;
         kwh[i] = Kwh { kwh: n };
     }
     Ok(kwh)

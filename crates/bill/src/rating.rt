@@ -49,7 +49,7 @@ fn used(row: Row) -> Kwh
     ensures { result ≡ kwh_of (kwh row) }
 {
     Kwh {
-        kwh: row.peak.kwh + row.valley.kwh + row.bought.kwh,
+        kwh: row.kwh() as u64,
     }
 }
 
