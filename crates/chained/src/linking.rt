@@ -69,10 +69,6 @@ impl Links {
     pub fn cell_at<R: Copy>(&self, table: &[Cell<R>], index: u16) -> Option<Cell<R>>
         ensures { result ≡ link.cell_at self.now table.now index }
     {
-        let place = (index as usize).checked_sub(1)?;
-        if place >= self.used {
-            return None;
-        }
-        table.get(place).copied()
+        table.get(place(u64::from(index), self.used)?).copied()
     }
 }

@@ -17,7 +17,7 @@ pub struct Row {
 pub type YearRows = [Row; 12];
 
 /// What is booked into a month's row.
-// An enum and no closure: the rules name these kinds, and callers' contracts match on them.
+// An enum and no closure: the rules name these kinds, and a contract says which one was asked for.
 #[derive(Clone, Copy)]
 pub enum Booking {
     /// The consumption of both registers.
@@ -27,7 +27,7 @@ pub enum Booking {
 }
 
 /// What becomes of the marks of the rows after a month.
-// An enum and no closure: the rules name these kinds, and callers' contracts match on them.
+// An enum and no closure: the rules name these kinds, and a contract says which one was asked for.
 #[derive(Clone, Copy)]
 pub enum Marking {
     /// They no longer count.

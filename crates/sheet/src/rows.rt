@@ -118,12 +118,10 @@ pub fn all_fit(rows: &[Row]) -> bool
 pub fn booked_in(rows: &YearRows, month: u64, booking: Booking) -> Option<YearRows>
     ensures { result ≡ means.booked_in month booking rows.now }
 {
-    if !(1..=12).contains(&month) {
-        return None;
-    }
-    let i = month as usize - 1;
+    let i = month.checked_sub(1)? as usize;
+    let row = rows.get(i)?.booked(booking)?;
     let mut next = *rows;
-    next[i] = rows[i].booked(booking)?;
+    next[i] = row;
     Some(next)
 }
 

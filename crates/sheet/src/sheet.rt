@@ -18,7 +18,7 @@ impl Sheet {
     pub fn new(rows: YearRows) -> Option<Sheet>
         ensures { option_map (λ s. s.rows) result ≡ all_fitting rows }
     {
-        // No `then`: nothing tells its closure that the rows fit.
+        // No `then`: its closure would need a `requires` that the rows fit.
         if all_fit(&rows) {
             Some(Sheet { rows })
         } else {
