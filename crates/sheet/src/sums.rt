@@ -32,7 +32,7 @@ impl Sheet {
     pub fn total(&self) -> Kwh
         ensures { result.kwh ≡ means.total self.now.rows }
     {
-        // A `for` over the rows borrowed as a slice, the form that the project names for this sum.
+        // A `for` over the rows borrowed as a slice: one of the forms to keep (docs/DEVELOPING.md).
         let rows: &[Row] = &self.rows;
         let mut sum = 0;
         for row in rows {
