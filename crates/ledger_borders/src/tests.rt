@@ -1,6 +1,7 @@
 //! What the tests share: postings, and what every ledger must answer.
 mod chains;
 mod counts;
+mod names;
 mod pairs;
 
 use chained::cell::Line;
@@ -51,6 +52,7 @@ fn enrols<L: Ledger>(
     for outside in [0, past, u64::MAX] {
         assert_eq!(rt; refused(ledger.enrol(outside)), Some(12));
         assert_eq!(rt; refused(ledger.count(outside)), Some(12));
+        assert_eq!(rt; refused(ledger.post(purchase(outside, 1))), Some(12));
         assert!(rt; !ledger.enrolled(outside));
     }
     for number in [1, greatest] {

@@ -2,6 +2,7 @@
 use super::{UNUSED, bounds, enrols, purchase};
 use chained::chained::ChainedLedger;
 use chained::lending::open_with_both;
+use chained::linking::room;
 use fault::refused;
 use ledger::ledger::Ledger;
 use std::test::Fail;
@@ -26,12 +27,18 @@ fn no_cells_and_one(rt: HostRuntime) -> Result<(), Fail> {
     assert_eq!(rt; empty.free(), 0);
     assert_eq!(rt; refused(empty.post(purchase(1, 1))), Some(14));
     assert_eq!(rt; empty.newest(1)?, 0);
+    assert_eq!(rt; refused(empty.newest(0)), Some(12));
+    assert_eq!(rt; refused(empty.newest(201)), Some(12));
     let mut one = [UNUSED; 1];
     let mut small = ChainedLedger::new(&mut one);
     small.enrol(200)?;
     assert_eq!(rt; refused(small.post(purchase(200, -7))), None);
     assert_eq!(rt; refused(small.post(purchase(200, 1))), Some(14));
     assert_eq!(rt; small.newest(200)?, 1);
+    assert_eq!(rt;
+        refused(open_with_both(&mut [UNUSED; 1], 9, purchase(9, 5), purchase(9, 6))),
+        Some(14)
+    );
     assert_eq!(rt; one[0].number, 200);
     assert_eq!(rt; one[0].next, 0);
     assert_eq!(rt; one[0].item.fen.fen, -7);
@@ -79,6 +86,14 @@ fn a_line(rt: HostRuntime) -> Result<(), Fail> {
     assert_eq!(rt; line.item.month, 4);
     assert_eq!(rt; line.item.fen.fen, 5);
     Ok(())
+}
+
+// An index is at most 65,535, so a table has no more lines than that.
+#[test]
+fn room_of_large_tables(rt: HostRuntime) {
+    assert_eq!(rt; room(0), 0);
+    assert_eq!(rt; room(65_535), 65_535);
+    assert_eq!(rt; room(65_536), 65_535);
 }
 
 #[test]
