@@ -1,6 +1,5 @@
 //! The sums over the rows of a year's sheet.
-ghost use Rattle.std.specs.Prelude.{◌≡◌, ℕ, ◌+◌, ◌≤◌};
-ghost use Rattle.sheet.specs.Rows.{kwh};
+ghost use Rattle.std.specs.Prelude.{◌≡◌};
 ghost use Rattle.sheet.specs.Sums as means;
 
 use crate::quantity::Kwh;
@@ -41,51 +40,38 @@ impl Sheet {
         Kwh { kwh: sum }
     }
 
-    // The sum over the rows of what `adds` gives for a month and its row: at most the kWh of the row, or 1, so that the sum fits.
-    #[tactic(auto, using(crate::proofs::Adding::sums))]
-    fn sum_of<F: Fn(u64, Row) -> u64>(&self, adds: F) -> u64
-        ghost f: { ℕ → Row → ℕ }
-        requires callable { F.IsAlwaysCallable adds }
-        requires gives { (month : _) (row : _) (n : _) → F.post adds month row n → n ≡ f month row }
-        requires small { (month : _) (row : _) → f month row ≤ kwh row + 1 }
-        ensures { result ≡ means.sum_from f 1 self.now.rows }
-    {
-        let mut added = 0;
-        for (i, row) in self.rows.iter().enumerate() {
-            added += adds(i as u64 + 1, *row);
-        }
-        added
-    }
-
     /// The six sums of the sheet.
+    #[tactic(auto, using(crate::proofs::Adding::sums, crate::proofs::Adding::proper_of, crate::proofs::Adding::counted_small, crate::proofs::Adding::multi_among_counted, crate::proofs::Adding::timed_small))]
     pub fn six_sums(&self) -> SixSums
         ensures { result ≡ means.six_sums self.now.rows }
     {
+        // Two loops for the five sums beside the total: a loop for each takes twice the time, and one for all makes who
+        // reads the months alone, as tiers do, pay for the rest.
+        let (mut counted, mut multi) = (0, 0);
+        for row in self.rows.iter() {
+            if row.counted {
+                counted += 1;
+                multi += u64::from(row.multi);
+            }
+        }
+        let (mut peak, mut heating, mut other) = (0, 0, 0);
+        for (i, row) in self.rows.iter().enumerate() {
+            if row.timed {
+                peak += row.peak.kwh;
+                if is_heating(i as u64 + 1) {
+                    heating += row.valley.kwh;
+                } else {
+                    other += row.valley.kwh;
+                }
+            }
+        }
         SixSums {
-            counted: self.sum_of(|_, row| u64::from(row.counted)),
-            multi: self.sum_of(|_, row| u64::from(row.counted && row.multi)),
+            counted,
+            multi,
             total: self.total(),
-            peak: Kwh {
-                kwh: self.sum_of(|_, row| if row.timed { row.peak.kwh } else { 0 }),
-            },
-            heating: Kwh {
-                kwh: self.sum_of(|month, row| {
-                    if row.timed && is_heating(month) {
-                        row.valley.kwh
-                    } else {
-                        0
-                    }
-                }),
-            },
-            other: Kwh {
-                kwh: self.sum_of(|month, row| {
-                    if row.timed && !is_heating(month) {
-                        row.valley.kwh
-                    } else {
-                        0
-                    }
-                }),
-            },
+            peak: Kwh { kwh: peak },
+            heating: Kwh { kwh: heating },
+            other: Kwh { kwh: other },
         }
     }
 }
