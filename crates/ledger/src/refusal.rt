@@ -1,4 +1,5 @@
 //! Why a ledger refuses.
+ghost use Rattle.std.specs.Prelude.{◌≡◌};
 ghost use Rattle.ledger.specs.Codes.{code};
 
 use fault::{Code, Layer, Refusal};
@@ -14,10 +15,12 @@ pub enum LedgerFault {
     Full,
 }
 
-impl Refusal for LedgerFault {
-    ghost code = { code };
-
-    fn code(self) -> Code {
+impl LedgerFault {
+    /// Its number, layer and place.
+    // A method of its own beside the trait's, so that a caller need not import the trait.
+    pub fn code(self) -> Code
+        ensures { result ≡ code self }
+    {
         let number = match self {
             LedgerFault::Number => 12,
             LedgerFault::Amount => 13,
@@ -28,5 +31,13 @@ impl Refusal for LedgerFault {
             layer: Layer::Ledger,
             place: 0,
         }
+    }
+}
+
+impl Refusal for LedgerFault {
+    ghost code = { code };
+
+    fn code(self) -> Code {
+        LedgerFault::code(self)
     }
 }

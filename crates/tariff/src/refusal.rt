@@ -1,4 +1,5 @@
 //! Why a tariff refuses.
+ghost use Rattle.std.specs.Prelude.{◌≡◌};
 ghost use Rattle.tariff.specs.Faults.{code};
 
 use fault::{Code, Layer, Refusal};
@@ -12,10 +13,12 @@ pub enum TariffFault {
     Unlawful,
 }
 
-impl Refusal for TariffFault {
-    ghost code = { code };
-
-    fn code(self) -> Code {
+impl TariffFault {
+    /// Its number, layer and place.
+    // A method of its own beside the trait's, so that a caller need not import the trait.
+    pub fn code(self) -> Code
+        ensures { result ≡ code self }
+    {
         let number = match self {
             TariffFault::TooDear => 11,
             TariffFault::Unlawful => 16,
@@ -25,5 +28,13 @@ impl Refusal for TariffFault {
             layer: Layer::Tariff,
             place: 0,
         }
+    }
+}
+
+impl Refusal for TariffFault {
+    ghost code = { code };
+
+    fn code(self) -> Code {
+        TariffFault::code(self)
     }
 }

@@ -1,6 +1,6 @@
 //! Units as fen, heating months, and what a refusal tells.
 use super::units;
-use fault::{Code, Layer, Refusal};
+use fault::{Code, Layer};
 use sheet::sums::is_heating;
 use tariff::refusal::TariffFault;
 

@@ -1,5 +1,5 @@
 //! The numbers of the refusals, and the letters of the causes.
-use fault::{Code, Layer, Refusal};
+use fault::{Code, Layer};
 use ledger::posting::Cause;
 use ledger::refusal::LedgerFault;
 
