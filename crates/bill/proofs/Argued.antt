@@ -29,14 +29,14 @@ months_more arguments i n kwh room w m = below_more _ i
     (λ k h. rw (get_or-set_other kwh i k (kwh_of n) (kwh_of 0) (omega arith)) (m k h))
     (rw (get_or-set_same kwh i (kwh_of n) (kwh_of 0) room) w)
 
-pub some_months : (arguments : List (List ℕ)) (n : ℕ) (kwh : List Quantity) → Months arguments n kwh → SomeMonths arguments n
-some_months arguments n kwh h k l = ((get_or kwh k (kwh_of 0)).kwh, h k l)
+pub some_months : (arguments : List (List ℕ)) (n m : ℕ) (kwh : List Quantity) → m ≤ n → Months arguments n kwh → SomeMonths arguments m
+some_months arguments n m kwh le h k l = ((get_or kwh k (kwh_of 0)).kwh, h k (omega arith))
 
 -- the fault of month i + 1
 pub month_fault : (arguments : List (List ℕ)) (i : ℕ) (kwh : List Quantity) → length arguments ≡ 12 → i < 12 → Months arguments i kwh → Read 0 999999 (get_or arguments i []) None → Fault arguments (Kwh (i + 1))
 month_fault arguments i kwh size h before none =
     let back : i + 1 - 1 ≡ i = omega arith in
-    rw back (omega arith, omega arith, omega arith, omega arith, some_months arguments i kwh before, none)
+    rw back (omega arith, omega arith, omega arith, omega arith, some_months arguments i i kwh (omega arith) before, none)
 
 -- ---- what the first twelve arguments give is what all of them give
 

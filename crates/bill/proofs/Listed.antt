@@ -37,6 +37,12 @@ numbered_past f n [] ys k j h = ap (slice_get ys) (omega arith)
 numbered_past f n (x ∷ xs) ys zero j h = absurd (omega arith)
 numbered_past f n (x ∷ xs) ys (suc k) j h = numbered_past f (n + 1) xs ys k j (omega arith)
 
+-- a place past the first of two lists of lines
+pub nth_second : (xs ys : List Line) (k j : ℕ) → k ≡ length xs + j → slice_get (xs ++ ys) k ≡ slice_get ys j
+nth_second [] ys k j h = ap (slice_get ys) (omega arith)
+nth_second (x ∷ xs) ys zero j h = absurd (omega arith)
+nth_second (x ∷ xs) ys (suc k) j h = nth_second xs ys k j (omega arith)
+
 -- what was read of a list is there
 got : {X : Type 0} (xs ys : List X) (k : ℕ) (x : X) → xs ≡ ys → k < length xs → x ≡ get_or xs k x → slice_get ys k ≡ Some x
 got {X = X} xs ys k x is h at = ap (λ (l : List X). slice_get l k) (sym is) ∙ slice_get_read xs (length xs) k x refl h at

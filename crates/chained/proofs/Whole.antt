@@ -1,12 +1,12 @@
 -- The chains stay linked with one record more, and each is whole. Assumes nothing.
-use Rattle.std.proofs.Common.{◌≡◌, ℕ, zero, suc, ◌+◌, ◌-◌, ◌<◌, ◌≤◌, List, [], ◌∷◌, length, set, ℤ, sym, ap, ◌∙◌, subst, inl, inr, add-one, arith}
+use Rattle.std.proofs.Common.{◌≡◌, ℕ, zero, suc, ◌+◌, ◌-◌, ◌<◌, ◌≤◌, List, [], ◌∷◌, length, replicate, set, ℤ, pos, sym, ap, ◌∙◌, subst, inl, inr, add-one, arith}
 use Rattle.std.proofs.Math.Path.{fun_ext}
 use Rattle.std.specs.List.{AllByRecursion}
 use Rattle.std.proofs.lemmas.Bool.{cases_eq, cases_lt, eq-eqb, ne_eqb}
 use Rattle.ledger.specs.Book.{at}
-use Rattle.ledger.proofs.Changed.{indexed_set}
+use Rattle.ledger.proofs.Changed.{indexed_set, indexed_same}
 use Rattle.chained.specs.declared.cell.Cell.{Cell}
-use Rattle.chained.specs.Chain.{number_at, next_at, places, newest, newest_of, head, Heads, Nexts, Counts, Sums, ChainOf, Falling, Walk, ended, met}
+use Rattle.chained.specs.Chain.{number_at, next_at, amount_at, total, places, newest, newest_of, head, Heads, Nexts, Counts, Sums, ChainOf, Falling, Walk, ended, met}
 use Rattle.chained.specs.Stepping.{field_old, field_new, number_old, places_same, of_places_step}
 
 module _ {R : Type 0} (t : List (Cell R)) (used : ℕ) (c : Cell R) (space : used < length t) where
@@ -47,7 +47,7 @@ places_each number n P none mine other (suc b) =
     elim (cases_eq (number b) n) [ inl y ↦ rw (eq-eqb (number b) n y) (mine b y again) | inr o ↦ rw (ne_eqb (number b) n o) (other b again) ]
 
 -- from the newest of n's records among the first b, the walk meets exactly those
-walked : (number next : ℕ → ℕ) (used : ℕ) → Nexts number next used → (n b : ℕ) → b ≤ used → Walk next (newest (places number n b)) (places number n b)
+pub walked : (number next : ℕ → ℕ) (used : ℕ) → Nexts number next used → (n b : ℕ) → b ≤ used → Walk next (newest (places number n b)) (places number n b)
 walked number next used nexts n =
     places_each number n (λ b js. b ≤ used → Walk next (newest js) js) (λ l. ended) (λ b mine again l.
     let on : next b ≡ newest (places number n b) = nexts b (omega arith) ∙ ap (λ k. newest (places number k b)) mine in
@@ -73,3 +73,17 @@ chain_from amount count sum t used n index nexts h counts sums = record {
   many = sym (counts n);
   comes = sym (sums n);
 }
+
+-- with no record, any table will do
+no_places : (number : ℕ → ℕ) (n used : ℕ) → used ≡ 0 → places number n used ≡ []
+unfolding places
+no_places number n used z = ap (places number n) z
+
+pub none_heads : (heads : List ℕ) (number : ℕ → ℕ) (used k : ℕ) → heads ≡ replicate k 0 → used ≡ 0 → Heads heads number used
+none_heads heads number used k e z n = ap (λ h. head h n) e ∙ indexed_same k n 0 ∙ sym (ap newest (no_places number n used z))
+
+pub none_counts : {R : Type 0} (count : ℕ → ℕ) (t : List (Cell R)) (used : ℕ) → used ≡ 0 → count ≡ (λ _. 0) → Counts count t used
+none_counts count t used z e n = ap (λ f. f n) e ∙ sym (ap length (no_places (number_at t) n used z))
+
+pub none_sums : {R : Type 0} (amount : R → ℤ) (sum : ℕ → ℤ) (t : List (Cell R)) (used : ℕ) → used ≡ 0 → sum ≡ (λ _. pos 0) → Sums amount sum t used
+none_sums amount sum t used z e n = ap (λ f. f n) e ∙ sym (ap (total (amount_at amount t)) (no_places (number_at t) n used z))

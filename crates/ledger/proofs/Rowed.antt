@@ -1,15 +1,23 @@
 -- What a write to one row does to the book that the rows mean. Assumes nothing.
-use Rattle.std.proofs.Common.{◌≡◌, ℕ, ◌+◌, ◌-◌, Bool, true, List, length, set, ℤ, ◌+ℤ◌, is_some, Some, Option, sym, refl, ap, ◌∙◌, arith}
+use Rattle.std.proofs.Common.{◌≡◌, ℕ, ◌+◌, ◌-◌, Bool, true, List, length, set, ℤ, ◌+ℤ◌, is_some, Some, None, Option, sym, refl, ap, ◌∙◌, arith}
 use Rattle.std.proofs.Math.Path.{fun_ext}
 use Rattle.std.proofs.lemmas.Grind.{common_steps}
 use Rattle.ledger.specs.declared.balance.Balance.{Balance}
 use Rattle.ledger.specs.declared.posting.Posting.{Posting}
-use Rattle.ledger.specs.Book.{Book, at, amount, with_line}
+use Rattle.ledger.specs.Book.{Book, at, amount, known, with_line}
 use Rattle.ledger.specs.Rows.{count_of, sum_of, row, meant, place, grown}
 use Rattle.ledger.proofs.Changed.{at_same}
 
 abbrev Rows : Type 0
 Rows = List (Option Balance)
+
+-- a number with no place among the rows
+pub unplaced_row : (rows : Rows) (n N : ℕ) → length rows ≡ N → place n N ≡ None → None ≡ row rows n
+unplaced_row rows n N l e = grind (arith, common_steps)
+
+-- an enrolled number is known
+pub enrolled_known : (rows : Rows) (N free n : ℕ) → length rows ≡ N → is_some (row rows n) ≡ known N (meant rows free) n
+enrolled_known rows N free n l = grind (arith, common_steps)
 
 part_set : {B : Type 0} (f : Option Balance → B) (rows : Rows) (n i : ℕ) (y : Option Balance) → place n (length rows) ≡ Some i → (λ k. f (row (set rows i y) k)) ≡ at (λ k. f (row rows k)) n (f y)
 part_set f rows n i y h = fun_ext (λ k. grind (arith, common_steps))

@@ -1,5 +1,5 @@
 -- Rows of balances keep to what every ledger's book keeps to. A proof, which stands here since a ghost member cites it.
-use Rattle.std.specs.Prelude.{◌≡◌, ℕ, zero, suc, ◌-◌, ◌*◌, ◌≤◌, true, false, List, length, take, is_some, None, sum_by, Option, slice_index_or, unsigned_abs, refl}
+use Rattle.std.specs.Prelude.{◌≡◌, ℕ, zero, suc, ◌-◌, ◌*◌, ◌<◌, ◌≤◌, true, false, ◌⊎◌, List, length, take, is_some, None, sum_by, Option, slice_index_or, unsigned_abs, refl}
 use Rattle.std.proofs.Common.{arith, inl, inr, sym, ap, ◌∙◌}
 use Rattle.std.proofs.lemmas.List.{take_all}
 use Rattle.std.proofs.lemmas.List.Sums.{sum_by_more, sum_by-take-le}
@@ -26,8 +26,20 @@ upto_rows rows (suc k) =
 row_bounded : (rows : List (Option Balance)) → ((k : ℕ) → Bounded (slice_index_or rows k None)) → (n : ℕ) → Bounded (row rows n)
 row_bounded rows h n = let at = h (n - 1) in grind (arith, common_steps)
 
-row_within : (rows : List (Option Balance)) (n : ℕ) → is_some (row rows n) ≡ true → within (length rows) n ≡ true
-row_within rows n e = grind (arith, common_steps)
+-- a number with no row of its own has no balance
+pub row_outside : (rows : List (Option Balance)) (N n : ℕ) → length rows ≡ N → (n ≡ 0) ⊎ (N < n) → row rows n ≡ None
+row_outside rows N n l (inl z) = grind (arith, common_steps)
+row_outside rows N n l (inr far) = grind (arith, common_steps)
+
+-- from what cannot be
+pub impossible : {P : Type 0} → ◌≡◌ {A = ℕ} 0 1 → P
+impossible z = let no : ⊥ = omega arith in absurd no
+
+absent : {P : Type 0} (r : Option Balance) → r ≡ None → is_some r ≡ true → P
+absent r e h = let t : true ≡ false = sym h ∙ ap is_some e in impossible (cc)
+
+pub row_within : (rows : List (Option Balance)) (N n : ℕ) → length rows ≡ N → is_some (row rows n) ≡ true → within N n ≡ true
+row_within rows N n l e = grind (arith, common_steps)
 
 no_lines : (r : Option Balance) → is_some r ≡ false → count_of r ≡ 0
 no_lines r e = grind arith
@@ -36,6 +48,6 @@ pub lawful_book : {N : ℕ} (x : Balances N) → Lawful N (book_of x)
 lawful_book {N} x = record {
   lines = let room = x.room in omega (arith, upto_rows x.rows N, sum_by-take-le count_of x.rows N);
   sums = row_bounded x.rows x.bounded;
-  numbers = λ n e. ap (λ m. within m n) (sym x.sized) ∙ row_within x.rows n e;
+  numbers = λ n. row_within x.rows N n x.sized;
   vacant = λ n. no_lines (row x.rows n);
 }

@@ -34,11 +34,12 @@ pub record Splits (rows : List Row) (bands : List Band) (last before i : ℕ) (d
   pub so_far : done ++ split_from before (drop i bands) last rows ≡ split bands last rows
   pub climbs : Climbs rows before (drop i bands)
 
+-- no share yet: of any tiers that climb, and of those of a table
+pub none_shares : (rows : List Row) (bands : List Band) (last : ℕ) (done : List Share) → done ≡ [] → Climbs rows 0 bands → Splits rows bands last 0 0 done
+none_shares rows bands last done none c = record { so_far = ap (λ l. l ++ split bands last rows) none; climbs = c }
+
 pub none_split : (t : Tiers) (rows : List Row) (bands : List Band) (done : List Share) → bands ≡ bands_of t → done ≡ [] → Splits rows bands t.last.units 0 0 done
-none_split t rows bands done is none = record {
-  so_far = ap (λ l. l ++ split bands t.last.units rows) none;
-  climbs = subst (λ l. Climbs rows 0 l) (sym is) (table_climbs rows (bands_of t) t.last.units t.kept);
-}
+none_split t rows bands done is none = none_shares rows bands t.last.units done none (subst (λ l. Climbs rows 0 l) (sym is) (table_climbs rows (bands_of t) t.last.units t.kept))
 
 -- the tier at i
 pub climbs_at : (rows : List Row) (bands : List Band) (before i : ℕ) → i < length bands → Climbs rows before (drop i bands)

@@ -10,7 +10,7 @@ returns-in_err-month-in-Some-default-len1 c =
     let months = first_months string_bytes _ _ _ w.ensures.cases c.in_ok-kwh-in-Some-default-len1.kwh c.in_ok-kwh-in-Some-default-len1.ensures in
     let none = mark_read string_bytes _ _ _ w.ensures.cases c.month-item.result _ _ None w.len_at_least c.month-item.is c.deref.ensures e.ok_part c.number.ensures in
     rw (refused_or _ c.number.result _ Month c.from_residual-in_err-month-in-Some-default-len1.ensures.1 e.value)
-    (how_many string_bytes _ _ _ w.ensures.cases ∙ omega arith, some_months _ 12 _ months, none)
+    (how_many string_bytes _ _ _ w.ensures.cases ∙ omega arith, some_months _ 12 12 _ (omega arith) months, none)
 
 pub returns-in_ok-month-in-Some-default-len1 : goal.returns-in_ok-month-in-Some-default-len1
 returns-in_ok-month-in-Some-default-len1 c =
