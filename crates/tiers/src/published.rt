@@ -11,6 +11,13 @@ use tariff::changes::Changes;
 use tariff::flat::Flat;
 use tariff::time_of_use::TimeOfUse;
 
+// Shandong's tiers but the last.
+fn shandong_bands() -> [Band; 2]
+    ensures { result ≡ values.shandong_bands }
+{
+    [Band::new(5469, 210, 310), Band::new(5969, 400, 400)]
+}
+
 /// Shandong's three tiers. What they come to in a year is the table of figures.
 #[tactic(auto, using(crate::proofs::Figured::shandong_lawful, crate::proofs::Figured::figures))]
 pub fn shandong() -> Tiers
@@ -18,8 +25,7 @@ pub fn shandong() -> Tiers
     ensures last { result.last.units ≡ values.shandong_last }
     ensures figures { Figures }
 {
-    let bands = [Band::new(5469, 210, 310), Band::new(5969, 400, 400)];
-    Tiers::new(&bands, Units { units: 8469 }).unwrap()
+    Tiers::new(&shandong_bands(), Units { units: 8469 }).unwrap()
 }
 
 /// Shandong's tiers under its time of use.
